@@ -1,0 +1,15 @@
+pub mod Sets
+pub mod Closure
+pub mod Store
+pub mod FixedPoint
+pub mod Order
+pub mod Confluence
+pub mod Multiset
+pub mod WeightBound
+pub mod Unguarded
+pub mod Rank
+pub mod Weight
+pub mod Moves
+pub mod Finishes
+pub mod SameCopies
+pub mod Chain

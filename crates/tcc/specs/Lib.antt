@@ -1,0 +1,14 @@
+pub mod Sets
+pub mod Closure
+pub mod Score
+pub mod Unguarded
+pub mod Lawful
+pub mod Store
+pub mod Order
+pub mod Weight
+pub mod Instant
+pub mod Confluence
+pub mod WeightBound
+pub mod Chain
+pub mod SameCopies
+pub mod FixedPoint
