@@ -1,0 +1,4 @@
+pub mod Fill
+pub mod ProcedureSets
+pub mod Rows
+pub mod Leads

@@ -1,0 +1,5 @@
+pub mod Verdicts
+pub mod Accepted
+pub mod Circle
+pub mod Values
+pub mod Lawful
