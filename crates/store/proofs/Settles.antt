@@ -1,0 +1,55 @@
+-- When a store that is kept as flags is the closure of given tokens.
+--     Drawn              256 flags that hold the given tokens, and nothing that does not derive from them
+--     closed-flags       closed under the rules and the clash, they are the closure
+--     closed-calm        without token 0, closed under the rules is enough
+--     closed-clash       with it, the score's tokens all set are the closure
+--     closure-same       equal sets have equal closures
+use mathlib.Core.Path.{_≡_}
+use mathlib.Core.Bool.{Bool, true, false}
+use mathlib.Core.List.{List, List·Memᴰ}
+use mathlib.Core.Logic.{⊎-elim}
+use Prim.Native.Nat.{ℕ, _<_}
+use lib.ListN.{length, getD}
+use lib.Dec.{eqb}
+use Rattle.tcc.specs.Sets.{Same}
+use Rattle.tcc.specs.Score.{Score}
+use Rattle.tcc.specs.Lawful.{Lawful}
+use Rattle.tcc.specs.Store.{Derived, by-clash, storeRules, closure}
+use Rattle.tcc.proofs.Sets.{Within, Among, true-is-false}
+use Rattle.tcc.proofs.Closure.{Follows, close-monotone, eqb-decides}
+use Rattle.tcc.proofs.Store.{store-follows, derived-least, closure-exact}
+use Rattle.store.specs.Flags.{setOf, flagsOf}
+use Rattle.store.specs.Passes.{Flooded}
+use Rattle.store.proofs.Flags.{flag-member, member-flag, flags-settled}
+
+pub record Drawn (sc : Score) (given : List ℕ) (store : List Bool) : Type 0 where
+  pub long : length store ≡ 256
+  pub kept : Among given (setOf store)
+  pub derived : Within (Derived sc given) (setOf store)
+
+module _ (sc : Score) (given : List ℕ) where
+  pub closed-flags : (store : List Bool) → Drawn sc given store → Follows (λ t. List·Memᴰ t (setOf store)) (storeRules sc) → store ≡ flagsOf 256 (closure sc given)
+  closed-flags store h follows = flags-settled 256 (closure sc given) store (h .long) (λ i l. (
+    λ m. closure-exact sc given i .1 (h .derived i m),
+    λ m. derived-least sc given (λ t. List·Memᴰ t (setOf store)) follows (h .kept) i (closure-exact sc given i .0 m),
+  ))
+
+  module _ (store : List Bool) (h : Drawn sc given store) (rules : Follows (λ t. List·Memᴰ t (setOf store)) (sc .rules)) where
+    pub closed-calm : getD store 0 false ≡ false → store ≡ flagsOf 256 (closure sc given)
+    closed-calm none = closed-flags store h (store-follows sc rules (λ t m l. absurd (true-is-false (member-flag store m) none)))
+
+    pub closed-clash : (after : List Bool) → Lawful sc → getD store 0 false ≡ true → Flooded (sc .tokens) store after → after ≡ flagsOf 256 (closure sc given)
+    closed-clash after lawful clash full = closed-flags after
+        (record {
+          long = full .long;
+          kept = λ t m. full .kept t (h .kept t m);
+          derived = λ t m. ⊎-elim (λ (l : t < sc .tokens). by-clash (h .derived 0 (flag-member store clash)) l) (λ (k : List·Memᴰ t (setOf store)). h .derived t k) (full .only t m);
+        })
+        (store-follows sc (λ r m premises. full .filled (r .conclusion) (lawful .conclusions-known r m)) (λ t m l. full .filled t l))
+
+pub closure-same : (sc : Score) {l k : List ℕ} → Same l k → Same (closure sc l) (closure sc k)
+unfolding closure
+closure-same sc {l} {k} same t = (
+  close-monotone eqb eqb-decides (storeRules sc) (storeRules sc) l k (λ r m. m) (λ x m. same x .0 m) t,
+  close-monotone eqb eqb-decides (storeRules sc) (storeRules sc) k l (λ r m. m) (λ x m. same x .1 m) t,
+)
