@@ -1,0 +1,46 @@
+-- What goes to the ports.
+--     ports-same      the flags from the lowest to the highest port are the output
+use mathlib.Core.Path.{_≡_, refl, sym, ap, subst, _∙_}
+use mathlib.Core.Bool.{Bool, true, false, _&&_}
+use mathlib.Core.List.{List, map, List·Memᴰ, List·Memᴰ·head}
+use Prim.Native.Nat.{ℕ, suc, _+_, _-_, _<_, _≤_}
+use borrow.Author.Tests.{leb-true, le-leb}
+use native.Mathlib.Omega.{arith}
+use lib.Dec.{leb}
+use lib.ListN.{length, getD}
+use Rattle.tcc.specs.Sets.{Same, below, keep, has}
+use Rattle.tcc.specs.Score.{Score}
+use Rattle.tcc.specs.Instant.{output}
+use Rattle.tcc.proofs.Sets.{and-both, both-and, keep-kept, on-keep, on-map, map-member, has-member, member-has, below-lt, lt-below}
+use Rattle.store.specs.Flags.{setOf}
+use Rattle.store.proofs.Flags.{flag-member, member-flag}
+
+module _ (sc : Score) (status : ℕ) (store sent : List Bool)
+    (sends : (i : ℕ) → getD sent i false ≡ (leb (sc .lowest-port) i && leb i (sc .highest-port) && getD store i false)) where
+  goes : (t : ℕ) → List·Memᴰ t (setOf sent) → List·Memᴰ t (output sc status (setOf store))
+  unfolding output
+  goes t m =
+      let a = and-both (leb (sc .lowest-port) t && leb t (sc .highest-port)) (getD store t false) (sym (sends t) ∙ member-flag sent m) in
+      let b = and-both (leb (sc .lowest-port) t) (leb t (sc .highest-port)) (a .0) in
+      let low : sc .lowest-port ≤ t = leb-true (sc .lowest-port) t (b .0) in
+      let high : t ≤ sc .highest-port = leb-true t (sc .highest-port) (b .1) in
+      let e : sc .lowest-port + (t - sc .lowest-port) ≡ t = omega arith in
+      let k : List·Memᴰ (t - sc .lowest-port) (below (suc (sc .highest-port) - sc .lowest-port)) = lt-below (suc (sc .highest-port) - sc .lowest-port) (omega arith) in
+      keep-kept (λ u. has u (setOf store))
+      (subst (λ u. List·Memᴰ u (map (λ j. sc .lowest-port + j) (below (suc (sc .highest-port) - sc .lowest-port)))) e (map-member (λ j. sc .lowest-port + j) k))
+      (member-has (flag-member store (a .1)))
+
+  comes : (t : ℕ) → List·Memᴰ t (output sc status (setOf store)) → List·Memᴰ t (setOf sent)
+  unfolding output
+  comes =
+      on-keep {P = λ t. List·Memᴰ t (setOf sent)} (λ u. has u (setOf store)) (map (λ k. sc .lowest-port + k) (below (suc (sc .highest-port) - sc .lowest-port)))
+      (on-map (λ t. has t (setOf store) ≡ true → List·Memᴰ t (setOf sent)) (λ k. sc .lowest-port + k) (below (suc (sc .highest-port) - sc .lowest-port))
+      (λ k m h.
+      let lt : k < suc (sc .highest-port) - sc .lowest-port = below-lt (suc (sc .highest-port) - sc .lowest-port) k m in
+      let t = sc .lowest-port + k in
+      flag-member sent
+      (sends t
+      ∙ both-and (both-and (le-leb (sc .lowest-port) t (omega arith)) (le-leb t (sc .highest-port) (omega arith))) (member-flag store (has-member t (setOf store) h)))))
+
+  pub ports-same : Same (setOf sent) (output sc status (setOf store))
+  ports-same t = (goes t, comes t)

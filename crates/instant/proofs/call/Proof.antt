@@ -1,0 +1,268 @@
+-- `call`: each test in the order of the table, then the answer.
+use mathlib.Core.Path.{_≡_, refl, sym, ap, ap₂, subst⁻¹, _∙_}
+use mathlib.Core.Bool.{true, false, cond, true≢false}
+use Prim.Native.Nat.{ℕ, _<_, _≤_}
+use borrow.Author.Needs.{needs}
+use native.Mathlib.Omega.{arith}
+use lib.Dec.{eqb, leb}
+use mathlib.Core.List.{List, _∷_}
+use lib.ListN.{length, getD, replicate}
+use Rattle.tcc.specs.Sets.{any}
+use Rattle.tcc.specs.Instant.{Answer, count, output, answer}
+use Rattle.words.proofs.Words.{words-length}
+use Rattle.format.specs.Format.{sizesOf}
+use Rattle.format.specs.Decode.{sizes, decode}
+use Rattle.format.proofs.Decode.{decode-agents, decode-tokens, sizes-few}
+use Rattle.scorefile.specs.Check.{numberOf, verdict}
+use Rattle.scorefile.proofs.Accepted.{accepted-only, none-above}
+use Rattle.scorefile.proofs.Lawful.{accepted-faultless, accepted-lawful}
+use Rattle.store.specs.Flags.{setOf, flagsOf}
+use Rattle.store.specs.Playable.{Playable}
+use Rattle.engine.specs.Outcome.{outcomeOf}
+use Rattle.lent.specs.Bits.{bytesOf}
+use Rattle.lent.specs.Maps.{tokensIn, mapOf}
+use Rattle.lent.specs.States.{runningWord, abortedWord, agentWords, stateFault, stateOf, LawfulState}
+use Rattle.lent.proofs.Filled.{none-from, from-none}
+use Rattle.lent.proofs.Round.{faultless-lawful}
+use Rattle.lent.proofs.Tokens.{tokens-set}
+use Rattle.instant.specs.declared.Reply.the-variants.{Settled}
+use Rattle.instant.specs.InstantCall.{Lent, lent, Exit, lengthFault, tokenFault}
+use Rattle.instant.proofs.Exits.{turned, lengths, state, input, settled, Lengths-are, right-lengths}
+use Rattle.instant.proofs.Written.{Inside, answer-inside, next-lawful, state-written, store-written, output-written, flags-known}
+use Rattle.instant.proofs.call.Statement.{statement}
+use Rattle.instant.proofs.call.Tie as tie
+
+abbrev buffers : tie.Start → Lent
+buffers b = lent (b .args .state .now) (b .args .store .now) (b .args .output .now) (b .args .scratch .now)
+
+accepted : (c : tie.Else1) → numberOf (verdict (c .before .before .before .before .before .before .before .before .before .args .score .now)) ≡ 0
+accepted c = sym (c .before .number-of .ensures ∙ ap numberOf (c .before .before .check .ensures)) ∙ c .if1 .left
+
+long : (c : tie.Else2) → lengthFault (c .before .before .before .before .before .before .before .before .before .before .before .args .input .now) (buffers (c .before .before .before .before .before .before .before .before .before .before .before)) ≡ false
+long c = sym (c .before .wrong-length .ensures) ∙ c .if2 .left
+
+-- by the five lengths
+lengths-are : (c : tie.Else2) → Lengths-are (c .before .before .before .before .before .before .before .before .before .before .before .args .input .now) (buffers (c .before .before .before .before .before .before .before .before .before .before .before))
+lengths-are c = right-lengths (c .before .before .before .before .before .before .before .before .before .before .before .args .input .now) (buffers (c .before .before .before .before .before .before .before .before .before .before .before)) (long c)
+
+playable : (c : tie.Else1) → Playable (c .before .before .before .before .before .before .before .before .before .args .score .now)
+playable c =
+    let s = c .before .before .before .before .before .before .before .before .before .args .score .now in
+    let e = accepted-only (verdict s) (accepted c) in
+    record { whole = accepted-faultless s e .enough; lawful = accepted-lawful s e }
+
+sizes-are : (c : tie.After-sizes-of) → c .sizes-of .result ≡ sizes (c .before .before .before .before .before .before .before .before .before .before .before .before .before .args .score .now)
+sizes-are c = c .sizes-of .ensures ∙ ap sizesOf (c .before .word-at .ensures)
+
+state-lawful : (c : tie.Else3) → stateFault (sizes (c .before .before .before .before .before .before .before .before .before .before .before .before .before .before .before .before .args .score .now) .agents) (c .before .before .before .before .before .before .before .before .before .before .before .before .before .before .before .before .args .state .now) ≡ false
+state-lawful c =
+    ap (λ h. stateFault (h .agents) (c .before .before .before .before .before .before .before .before .before .before .before .before .before .before .before .before .args .state .now)) (sym (sizes-are (c .before .before .before)))
+    ∙ sym (c .before .state-fault .ensures) ∙ c .if3 .left
+
+inputs-are : (c : tie.After-read-map) → setOf (c .read-map .result) ≡ tokensIn (c .before .before .before .before .before .before .before .before .before .before .before .before .before .before .before .before .before .args .input .now)
+inputs-are c = ap setOf (c .read-map .ensures) ∙ tokens-set (c .before .before .before .before .before .before .before .before .before .before .before .before .before .before .before .before .before .args .input .now)
+
+token-fault : (c : tie.After-any-from) → c .any-from .result ≡ tokenFault (c .before .before .before .before .before .before .before .before .before .before .before .before .before .before .before .before .before .before .before .args .score .now) (c .before .before .before .before .before .before .before .before .before .before .before .before .before .before .before .before .before .before .before .args .input .now)
+token-fault c =
+    c .any-from .ensures
+    ∙ ap₂ (λ h l. any (λ t. leb (h .tokens) t) l) (sizes-are (c .before .before .before .before .before .before)) (inputs-are (c .before .before))
+
+same-exit : {s s′ t t′ o o′ f f′ : List ℕ} {m m′ n n′ : ℕ} → s ≡ s′ → t ≡ t′ → o ≡ o′ → f ≡ f′ → m ≡ m′ → n ≡ n′ →
+    _≡_ {A = Exit} (record { lent = lent s t o f; reply = Settled m n }) (record { lent = lent s′ t′ o′ f′; reply = Settled m′ n′ })
+same-exit p q r e a b = λ i. record { lent = lent (p i) (q i) (r i) (e i); reply = Settled (a i) (b i) }
+
+-- the answer that the call gives
+abbrev answer-of : tie.Start → Answer
+answer-of b = answer (decode (b .args .score .now)) (stateOf (b .args .state .now)) (tokensIn (b .args .input .now))
+
+outcome-is : (c : tie.After-answer-in) → c .answer-in .result ≡ outcomeOf (answer-of (c .before .before .before .before .before .before .before .before .before .before .before .before .before .before .before .before .before .before .before .before .before .before))
+outcome-is c =
+    let b = c .before .before .before .before .before .before .before .before .before .before .before .before .before .before .before .before .before .before .before .before .before .before in
+    c .answer-in .ensures ∙ ap (λ l. outcomeOf (answer (decode (b .args .score .now)) (stateOf (b .args .state .now)) l)) (inputs-are (c .before .before .before .before .before))
+
+inside : (c : tie.Else4) → Inside (decode (c .before .before .before .before .before .before .before .before .before .before .before .before .before .before .before .before .before .before .before .before .args .score .now)) (answer-of (c .before .before .before .before .before .before .before .before .before .before .before .before .before .before .before .before .before .before .before .before))
+inside c =
+    let b = c .before .before .before .before .before .before .before .before .before .before .before .before .before .before .before .before .before .before .before .before in
+    let s = b .args .score .now in
+    let p = playable (c .before .before .before .before .before .before .before .before .before .before .before) in
+    let none : tokenFault s (b .args .input .now) ≡ false = sym (token-fault (c .before)) ∙ c .if4 .left in
+    answer-inside (decode s) (stateOf (b .args .state .now)) (tokensIn (b .args .input .now)) (p .lawful)
+    (subst⁻¹ (λ n. LawfulState n (stateOf (b .args .state .now))) (decode-agents s (omega (arith, p .whole))) (faultless-lawful (sizes s .agents) (b .args .state .now) (state-lawful (c .before .before .before .before))))
+    (λ t m. omega (arith, decode-tokens s, none-above (sizes s .tokens) (tokensIn (b .args .input .now)) none t m))
+
+check-requires : tie.Need-check-requires
+check-requires c κs = search needs
+
+number-of-requires : tie.Need-number-of-requires
+number-of-requires c κs = search needs
+
+returns : tie.Need-returns
+returns c =
+    let b = c .before .before .before .before .before .before .before .before .before in
+    record { exits = turned (b .args .score .now) (b .args .input .now) (buffers b) (c .before .before .check .result) (c .before .before .check .ensures) (λ z. c .if1 .taken (c .before .number-of .ensures ∙ z)) }
+
+wrong-length-requires : tie.Need-wrong-length-requires
+wrong-length-requires c κs = search needs
+
+returns-2 : tie.Need-returns-2
+returns-2 c =
+    let b = c .before .before .before .before .before .before .before .before .before .before .before in
+    record { exits = lengths (b .args .score .now) (b .args .input .now) (buffers b) (accepted (c .before .before)) (sym (c .before .wrong-length .ensures) ∙ c .if2 .taken) }
+
+word-at-requires : tie.Need-word-at-requires
+word-at-requires c κs = omega (arith, playable (c .before .before) .whole)
+
+sizes-of-requires : tie.Need-sizes-of-requires
+sizes-of-requires c κs = search needs
+
+state-fault-requires : tie.Need-state-fault-requires
+state-fault-requires c κs = lengths-are (c .before .before .before) .state-long
+
+same-length : tie.Need-same-length
+same-length c = search needs
+
+returns-3 : tie.Need-returns-3
+returns-3 c =
+    let b = c .before .before .before .before .before .before .before .before .before .before .before .before .before .before .before .before in
+    let f = ap (λ h. stateFault (h .agents) (b .args .state .now)) (sym (sizes-are (c .before .before .before))) ∙ sym (c .before .state-fault .ensures) ∙ c .if3 .taken in
+    record { exits = state (b .args .score .now) (b .args .input .now) (buffers b) (accepted (c .before .before .before .before .before .before .before)) (long (c .before .before .before .before .before)) f }
+
+read-map-requires : tie.Need-read-map-requires
+read-map-requires c κs = lengths-are (c .before .before .before .before .before) .input-long
+
+slice-aggregate-any-from : tie.Need-slice-aggregate-any-from
+slice-aggregate-any-from c = search needs
+
+any-from-requires : tie.Need-any-from-requires
+any-from-requires c κs = search needs
+
+same-length-2 : tie.Need-same-length-2
+same-length-2 c = search needs
+
+returns-4 : tie.Need-returns-4
+returns-4 c =
+    let b = c .before .before .before .before .before .before .before .before .before .before .before .before .before .before .before .before .before .before .before .before in
+    record { exits = input (b .args .score .now) (b .args .input .now) (buffers b) (accepted (c .before .before .before .before .before .before .before .before .before .before .before)) (long (c .before .before .before .before .before .before .before .before .before)) (state-lawful (c .before .before .before .before)) (sym (token-fault (c .before)) ∙ c .if4 .taken) }
+
+answer-in-requires : tie.Need-answer-in-requires
+answer-in-requires c κs = (sizes-are (c .before .before .before .before .before .before .before .before), (playable (c .before .before .before .before .before .before .before .before .before .before .before .before), lengths-are (c .before .before .before .before .before .before .before .before .before .before) .state-long))
+
+clear-requires : tie.Need-clear-requires
+clear-requires c κs = search needs
+
+slice-aggregate-any-from-2 : tie.Need-slice-aggregate-any-from-2
+slice-aggregate-any-from-2 c = search needs
+
+any-from-requires-2 : tie.Need-any-from-requires-2
+any-from-requires-2 c κs = search needs
+
+same-length-3 : tie.Need-same-length-3
+same-length-3 c = search needs
+
+same-length-4 : tie.Need-same-length-4
+same-length-4 c = search needs
+
+returns-5 : tie.Need-returns-5
+unfolding outcomeOf
+returns-5 c =
+    let b = c .before .before .before .before .before .before .before .before .before .before .before .before .before .before .before .before .before .before .before .before .before .before .before .before .before .before .before .before .before .before in
+    let sc = decode (b .args .score .now) in
+    let h = ap (λ x. x .agents) (sizes-are (c .before .before .before .before .before .before .before .before .before .before .before .before .before .before .before .before .before)) in
+    let e = decode-agents (b .args .score .now) (omega (arith, playable (c .before .before .before .before .before .before .before .before .before .before .before .before .before .before .before .before .before .before .before .before .before) .whole)) in
+    let none : any (λ i. leb (c .before .before .before .before .before .before .before .before .before .before .before .before .before .before .before .before .before .sizes-of .result .agents) i) (setOf (c .before .before .before .before .before .before .before .before .answer-in .result .awake)) ≡ false =
+    from-none _ _ (λ i le. ap (λ o. getD (o .awake) i false) (outcome-is (c .before .before .before .before .before .before .before .before)) ∙ flags-known 1024 (length (sc .agents)) (answer-of b .awake) (inside (c .before .before .before .before .before .before .before .before .before .before) .agents) i (omega (arith, h, e))) in
+    absurd (true≢false (sym (c .if5 .taken) ∙ c .before .any-from2 .ensures ∙ none))
+
+hand-over-requires : tie.Need-hand-over-requires
+unfolding outcomeOf
+hand-over-requires c κs =
+    let b = c .before .before .before .before .before .before .before .before .before .before .before .before .before .before .before .before .before .before .before .before .before .before .before .before .before .before .before .before .before .before .before .before .before in
+    let a = c .before .before .before in
+    let l = lengths-are (c .before .before .before .before .before .before .before .before .before .before .before .before .before .before .before .before .before .before .before .before .before .before) in
+    let h = sizes-are (c .before .before .before .before .before .before .before .before .before .before .before .before .before .before .before .before .before .before .before .before) in (
+      h,
+      (
+        playable (c .before .before .before .before .before .before .before .before .before .before .before .before .before .before .before .before .before .before .before .before .before .before .before .before),
+        (
+          record { state-bytes = l .state-long; store-bytes = l .store-long; output-bytes = l .output-long },
+          record {
+            agents = none-from _ _ (sym (c .before .before .before .before .any-from2 .ensures) ∙ a .if5 .left);
+            tokens =
+                λ t le.
+                ap (λ o. getD (o .store) t false) (outcome-is (c .before .before .before .before .before .before .before .before .before .before .before))
+                ∙ flags-known 256 (decode (b .args .score .now) .tokens) (answer-of b .store) (inside (c .before .before .before .before .before .before .before .before .before .before .before .before .before) .tokens) t (omega (arith, decode-tokens (b .args .score .now), ap (λ x. x .tokens) h));
+          },
+        ),
+      ),
+    )
+
+same-length-5 : tie.Need-same-length-5
+same-length-5 c = search needs
+
+same-length-6 : tie.Need-same-length-6
+same-length-6 c = search needs
+
+same-length-7 : tie.Need-same-length-7
+same-length-7 c = search needs
+
+same-length-8 : tie.Need-same-length-8
+same-length-8 c = search needs
+
+returns-6 : tie.Need-returns-6
+unfolding outcomeOf
+returns-6 c =
+    let b = c .before .before .before .before .before .before .before .before .before .before .before .before .before .before .before .before .before .before .before .before .before .before .before .before .before .before .before .before .before .before .before .before .before .before .before .before .before .before .before .before in
+    let s = b .args .score .now in
+    let sc = decode s in
+    let a = answer-of b in
+    let o = outcome-is (c .before .before .before .before .before .before .before .before .before .before .before .before .before .before .before .before .before .before) in
+    let h = c .before .before .before .before .before .before .hand-over .ensures in
+    let i = inside (c .before .before .before .before .before .before .before .before .before .before .before .before .before .before .before .before .before .before .before .before) in
+    let p = playable (c .before .before .before .before .before .before .before .before .before .before .before .before .before .before .before .before .before .before .before .before .before .before .before .before .before .before .before .before .before .before .before) in
+    let few = sizes-few s in
+    let n = decode-agents s (omega (arith, p .whole)) in
+    let t = decode-tokens s in
+    record {
+      exits =
+          same-exit
+          (h .state-is ∙ ap (λ x. bytesOf (cond (eqb (x .status) 2) abortedWord runningWord ∷ agentWords (setOf (x .awake)))) o ∙ state-written sc a (omega arith) i)
+          (h .store-is ∙ ap (λ x. mapOf (setOf (x .store))) o ∙ store-written sc a (omega arith) i)
+          (h .output-is ∙ ap (λ x. mapOf (output sc (x .status) (setOf (x .store)))) o ∙ output-written sc a (omega arith) i)
+          (c .before .before .before .before .before .before .before .before .before .before .before .before .before .before .before .before .clear .ensures ∙ ap (λ k. replicate k 0) (lengths-are (c .before .before .before .before .before .before .before .before .before .before .before .before .before .before .before .before .before .before .before .before .before .before .before .before .before .before .before .before .before) .scratch-long))
+          (ap (λ x. x .status) o)
+          (ap (λ x. x .count) o)
+          ∙ settled s (b .args .input .now) (buffers b) (accepted (c .before .before .before .before .before .before .before .before .before .before .before .before .before .before .before .before .before .before .before .before .before .before .before .before .before .before .before .before .before .before .before)) (long (c .before .before .before .before .before .before .before .before .before .before .before .before .before .before .before .before .before .before .before .before .before .before .before .before .before .before .before .before .before)) (state-lawful (c .before .before .before .before .before .before .before .before .before .before .before .before .before .before .before .before .before .before .before .before .before .before .before .before)) (sym (token-fault (c .before .before .before .before .before .before .before .before .before .before .before .before .before .before .before .before .before .before .before .before .before)) ∙ c .before .before .before .before .before .before .before .before .before .before .before .before .before .before .before .before .before .before .before .before .if4 .left) a refl (next-lawful sc a (sizes s .agents) n (omega arith) i);
+    }
+
+pub call-spec : {M : Type 1} → statement M
+call-spec =
+    tie.close
+    (tie.spec
+    check-requires
+    number-of-requires
+    returns
+    wrong-length-requires
+    returns-2
+    word-at-requires
+    sizes-of-requires
+    state-fault-requires
+    same-length
+    returns-3
+    read-map-requires
+    slice-aggregate-any-from
+    any-from-requires
+    same-length-2
+    returns-4
+    answer-in-requires
+    clear-requires
+    slice-aggregate-any-from-2
+    any-from-requires-2
+    same-length-3
+    same-length-4
+    returns-5
+    hand-over-requires
+    same-length-5
+    same-length-6
+    same-length-7
+    same-length-8
+    returns-6)

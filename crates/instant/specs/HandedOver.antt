@@ -1,0 +1,32 @@
+-- How an outcome is written to the lent buffers.
+--     Buffers        state and maps have their lengths
+--     Known          no agent and no token of an outcome is from past the score's
+--     HandedOver     what the buffers hold: the state, the store and what goes to the ports, by the outcome's flags
+use mathlib.Core.Path.{_≡_}
+use mathlib.Core.Bool.{Bool, false, cond}
+use mathlib.Core.List.{List, _∷_}
+use Prim.Native.Nat.{ℕ, _≤_}
+use lib.Dec.{eqb}
+use lib.ListN.{length, getD}
+use Rattle.tcc.specs.Score.{Score}
+use Rattle.tcc.specs.Instant.{output}
+use Rattle.format.specs.declared.Sizes.{Sizes}
+use Rattle.store.specs.Flags.{setOf}
+use Rattle.engine.specs.declared.Outcome.{Outcome}
+use Rattle.lent.specs.Bits.{bytesOf}
+use Rattle.lent.specs.Maps.{mapOf}
+use Rattle.lent.specs.States.{runningWord, abortedWord, agentWords}
+
+pub record Buffers (state store output : List ℕ) : Type 0 where
+  pub state-bytes : length state ≡ 132
+  pub store-bytes : length store ≡ 32
+  pub output-bytes : length output ≡ 32
+
+pub record Known (head : Sizes) (o : Outcome) : Type 0 where
+  pub agents : (i : ℕ) → head .agents ≤ i → getD (o .awake) i false ≡ false
+  pub tokens : (t : ℕ) → head .tokens ≤ t → getD (o .store) t false ≡ false
+
+pub record HandedOver (sc : Score) (o : Outcome) (state store sent : List ℕ) : Type 0 where
+  pub state-is : state ≡ bytesOf (cond (eqb (o .status) 2) abortedWord runningWord ∷ agentWords (setOf (o .awake)))
+  pub store-is : store ≡ mapOf (setOf (o .store))
+  pub output-is : sent ≡ mapOf (output sc (o .status) (setOf (o .store)))

@@ -1,0 +1,2 @@
+pub mod InstantCall
+pub mod HandedOver

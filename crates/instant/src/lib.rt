@@ -1,0 +1,170 @@
+ghost use mathlib.Core.Path.{_≡_};
+ghost use mathlib.Core.Bool.{false, cond, _&&_, _||_, not};
+ghost use mathlib.Core.List.{_∷_};
+ghost use Prim.Native.Nat.{ℕ, _<_, _≤_};
+ghost use lib.Dec.{eqb, leb};
+ghost use lib.ListN.{length, getD};
+ghost use Rattle.tcc.specs.Instant.{output, answer};
+ghost use Rattle.format.specs.Decode.{sizes, decode};
+ghost use Rattle.store.specs.Flags.{setOf, flagsOf};
+ghost use Rattle.store.specs.Playable.{Playable};
+ghost use Rattle.engine.specs.Outcome.{outcomeOf};
+ghost use Rattle.lent.specs.Maps.{mapBytes};
+ghost use Rattle.lent.specs.States.{stateBytes, runningWord, abortedWord, stateOf};
+ghost use Rattle.instant.specs.InstantCall.{lent, scratchBytes, InstantCall};
+ghost use Rattle.instant.specs.HandedOver.{Buffers, Known, HandedOver};
+use engine::Outcome;
+use format::Sizes;
+use scorefile::Verdict;
+use store::Tokens;
+
+// The bytes of a state, of a map and of the scratch.
+const STATE_BYTES: usize = 132;
+
+const MAP_BYTES: usize = 32;
+
+const SCRATCH_BYTES: usize = 2048;
+
+// Word 0 of a state.
+const RUNNING: u32 = 0xF000_0000;
+
+const ABORTED: u32 = 0xF000_0001;
+
+// What an instant call answers.
+pub enum Reply {
+    // The score is turned down, 1 to 7.
+    Score(Verdict),
+    // A state, map or scratch of another length.
+    Lengths,
+    // The state is not one of the score's.
+    State,
+    // The input names a token that the score does not have.
+    Input,
+    // The next state would not be one of the score's.
+    Next,
+    // Answered: the status and the count.
+    Settled(usize, usize),
+}
+
+// One instant of a score over lent buffers.
+pub fn call(
+    score: &[u8],
+    state: &mut [u8],
+    input: &[u8],
+    store: &mut [u8],
+    output: &mut [u8],
+    scratch: &mut [u8],
+) -> Reply
+    ensures { λ r. ⌜ InstantCall (now (score .entry)) (now (input .entry)) (lent (now (state .entry)) (now (store .entry)) (now (output .entry)) (now (scratch .entry))) (lent (now (state .exit)) (now (store .exit)) (now (output .exit)) (now (scratch .exit))) r ⌝ }
+{
+    let verdict = scorefile::check(score);
+    if scorefile::number_of(verdict) != 0 {
+        return Reply::Score(verdict);
+    }
+    if wrong_length(
+        state.len(),
+        input.len(),
+        store.len(),
+        output.len(),
+        scratch.len(),
+    ) {
+        return Reply::Lengths;
+    }
+    let head = format::sizes_of(words::word_at(score, 0));
+    if lent::state_fault(state, head.agents) {
+        return Reply::State;
+    }
+    let inputs = lent::read_map(input);
+    if lent::any_from(&inputs, head.tokens) {
+        return Reply::Input;
+    }
+    let outcome = answer_in(score, head, state, inputs);
+    lent::clear(scratch);
+    let awake = outcome.awake;
+    if lent::any_from(&awake, head.agents) {
+        return Reply::Next;
+    }
+    hand_over(score, head, outcome, state, store, output);
+    Reply::Settled(outcome.status, outcome.count)
+}
+
+// Writes an answer: the next state, the store and what goes to the ports.
+fn hand_over(
+    score: &[u8],
+    head: Sizes,
+    outcome: Outcome,
+    state: &mut [u8],
+    store: &mut [u8],
+    output: &mut [u8],
+)
+    requires { ⌜ head ≡ sizes (now score) ⌝ }
+    requires { ⌜ Playable (now score) ⌝ }
+    requires { ⌜ Buffers (now state) (now store) (now output) ⌝ }
+    requires { ⌜ Known head outcome ⌝ }
+    ensures { λ _. ⌜ HandedOver (decode (now (score .entry))) outcome (now (state .exit)) (now (store .exit)) (now (output .exit)) ⌝ }
+{
+    let held = outcome.store;
+    let awake = outcome.awake;
+    let ports = words::word_at(score, 1);
+    let first = first_word(outcome.status);
+    lent::write_state(state, first, head.agents, awake);
+    lent::write_map(store, head.tokens, held);
+    let sent = to_ports(
+        held,
+        format::number(ports, 0, 8),
+        format::number(ports, 8, 8),
+    );
+    lent::write_map(output, head.tokens, sent);
+}
+
+// Word 0 of the state after an answer.
+fn first_word(status: usize) -> u32
+    ensures { λ r. ⌜ r ≡ cond (eqb status 2) abortedWord runningWord ⌝ }
+{
+    if status == 2 { ABORTED } else { RUNNING }
+}
+
+// Whether a buffer has another length than it should.
+fn wrong_length(state: usize, input: usize, store: usize, output: usize, scratch: usize) -> bool
+    ensures { λ r. ⌜ r ≡ (not (eqb state stateBytes) || not (eqb input mapBytes) || not (eqb store mapBytes) || not (eqb output mapBytes) || not (eqb scratch scratchBytes)) ⌝ }
+{
+    (state != STATE_BYTES)
+        | (input != MAP_BYTES)
+        | (store != MAP_BYTES)
+        | (output != MAP_BYTES)
+        | (scratch != SCRATCH_BYTES)
+}
+
+// The answer in a state: an aborted one stays aborted.
+fn answer_in(score: &[u8], head: Sizes, state: &[u8], inputs: Tokens) -> Outcome
+    requires { ⌜ head ≡ sizes (now score) ⌝ }
+    requires { ⌜ Playable (now score) ⌝ }
+    requires { ⌜ length (now state) ≡ 132 ⌝ }
+    ensures { λ r. ⌜ r ≡ outcomeOf (answer (decode (now (score .entry))) (stateOf (now (state .entry))) (setOf inputs)) ⌝ }
+{
+    if words::word_at(state, 0) == ABORTED {
+        return Outcome {
+            status: 2,
+            count: 0,
+            store: [false; 256],
+            awake: [false; 1024],
+        };
+    }
+    engine::play(score, head, lent::read_agents(state), inputs)
+}
+
+// The tokens of a store from the lowest to the highest port.
+fn to_ports(store: Tokens, lowest: usize, highest: usize) -> Tokens
+    requires { ⌜ lowest ≤ highest ⌝ }
+    requires { ⌜ highest < 256 ⌝ }
+    ensures { λ r. ⌜ ((i : ℕ) → getD r i false ≡ (leb lowest i && leb i highest && getD store i false)) ⌝ }
+    ensures { λ r. ⌜ length r ≡ 256 ⌝ }
+{
+    let mut out = [false; 256];
+    let mut t = lowest;
+    while t <= highest {
+        out[t] = store[t];
+        t += 1;
+    }
+    out
+}

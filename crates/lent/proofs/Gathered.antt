@@ -1,0 +1,82 @@
+-- Numbers gathered from flags, and buffers that they are written to.
+--     gathered              the number of the n flags of part k
+--     stateWritten          a buffer with a first word and k words of agents written
+--     state-first, state-more, state-all     written word by word
+--     mapWritten            a buffer with k bytes of a map written
+--     map-more, map-all     written byte by byte
+use mathlib.Core.Path.{_≡_, refl, sym, ap, ap₂, _∙_}
+use mathlib.Core.Bool.{Bool, false}
+use mathlib.Core.List.{List, [], _∷_, _++_, map, append-nil}
+use Prim.Native.Nat.{ℕ, suc, _+_, _*_, _<_}
+use native.Mathlib.Numerals.{add-one}
+use native.Mathlib.Omega.{arith}
+use lib.ListN.{length, getD, set, take, drop, length-map, drop-of-length-le}
+use lib.Seq.{drop-cons, set-at, append-snoc}
+use Rattle.tcc.specs.Sets.{below, has}
+use Rattle.store.specs.Flags.{setOf}
+use Rattle.store.proofs.Flags.{below-length}
+use Rattle.lent.specs.Bits.{bitsValue, bytesOf}
+use Rattle.lent.specs.Maps.{mapOf}
+use Rattle.lent.specs.States.{agentWords}
+use Rattle.lent.proofs.Bits.{bitsValue-same}
+use Rattle.lent.proofs.Bytes.{Written, written-more, written-all, map-snoc, map-same}
+use Rattle.lent.proofs.Filled.{has-set}
+
+abbrev pub gathered : ℕ → List Bool → ℕ → ℕ
+gathered n flags k = bitsValue (λ j. getD flags (n * k + j) false) n
+
+parts-length : (n k : ℕ) (flags : List Bool) → length (map (gathered n flags) (below k)) ≡ k
+parts-length n k flags = length-map (below k) (gathered n flags) ∙ below-length k
+
+-- gathered from the flags of a set, or from the set
+from-set : (n : ℕ) (flags : List Bool) (k : ℕ) → gathered n flags k ≡ bitsValue (λ j. has (n * k + j) (setOf flags)) n
+from-set n flags k = bitsValue-same _ _ n (λ j h. sym (has-set flags (n * k + j)))
+
+unfoldable pub stateWritten : ℕ → List Bool → ℕ → List ℕ → List ℕ
+stateWritten first awake k s = Written (first ∷ map (gathered 32 awake) (below k)) s
+
+pub state-first : (first : ℕ) (awake : List Bool) (s t : List ℕ) → t ≡ take 0 s ++ bytesOf (first ∷ []) ++ drop 4 s → t ≡ stateWritten first awake 0 t
+unfolding stateWritten bytesOf
+state-first first awake s t e = e ∙ sym (ap (Written (first ∷ [])) e)
+
+module _ (first : ℕ) (awake : List Bool) where
+  pub state-more : (k w : ℕ) (s t u : List ℕ) → t ≡ stateWritten first awake k s → w ≡ gathered 32 awake k
+      → u ≡ take (4 * (1 + k)) t ++ bytesOf (w ∷ []) ++ drop (4 * (1 + k) + 4) t → u ≡ stateWritten first awake (k + 1) s
+  unfolding stateWritten
+  state-more k w s t u e v p =
+      p
+      ∙ ap₂ (λ x y. take (4 * (1 + k)) x ++ bytesOf (y ∷ []) ++ drop (4 * (1 + k) + 4) x) e v
+      ∙ written-more (first ∷ map (gathered 32 awake) (below k)) (gathered 32 awake k) (1 + k) s (omega (arith, parts-length 32 k awake))
+      ∙ ap (λ l. Written (first ∷ l) s) (sym (map-snoc (gathered 32 awake) (below k) k))
+      ∙ ap (λ n. Written (first ∷ map (gathered 32 awake) (below n)) s) (sym (add-one k))
+
+  pub state-all : (s : List ℕ) → length s ≡ 132 → stateWritten first awake 32 s ≡ bytesOf (first ∷ agentWords (setOf awake))
+  unfolding stateWritten agentWords
+  state-all s h =
+      written-all (first ∷ map (gathered 32 awake) (below 32)) s (omega (arith, parts-length 32 32 awake))
+      ∙ ap (λ l. bytesOf (first ∷ l)) (map-same (gathered 32 awake) (λ k. bitsValue (λ j. has (32 * k + j) (setOf awake)) 32) (below 32) (from-set 32 awake))
+
+unfoldable pub mapWritten : List Bool → ℕ → List ℕ → List ℕ
+mapWritten flags k s = map (gathered 8 flags) (below k) ++ drop k s
+
+module _ (flags : List Bool) where
+  pub map-none : (s : List ℕ) → s ≡ mapWritten flags 0 s
+  unfolding mapWritten
+  map-none s = refl
+
+  pub map-more : (k v : ℕ) (s t : List ℕ) → k < length s → t ≡ mapWritten flags k s → v ≡ gathered 8 flags k → set t k v ≡ mapWritten flags (k + 1) s
+  unfolding mapWritten
+  map-more k v s t h e p =
+      let l : List ℕ = map (gathered 8 flags) (below k) in
+      ap₂ (λ a b. set a k b) e p
+      ∙ ap (λ r. set (l ++ r) k (gathered 8 flags k)) (drop-cons s k 0 h)
+      ∙ set-at l (getD s k 0) (drop (suc k) s) (gathered 8 flags k) k (parts-length 8 k flags)
+      ∙ sym (append-snoc l (gathered 8 flags k) (drop (suc k) s))
+      ∙ ap (λ r. r ++ drop (suc k) s) (sym (map-snoc (gathered 8 flags) (below k) k))
+      ∙ ap (λ n. map (gathered 8 flags) (below n) ++ drop n s) (sym (add-one k))
+
+  pub map-all : (s : List ℕ) → length s ≡ 32 → mapWritten flags 32 s ≡ mapOf (setOf flags)
+  unfolding mapWritten mapOf
+  map-all s h =
+      ap₂ _++_ (map-same (gathered 8 flags) (λ k. bitsValue (λ j. has (8 * k + j) (setOf flags)) 8) (below 32) (from-set 8 flags)) (drop-of-length-le s {i = 32} (omega arith))
+      ∙ append-nil _

@@ -1,0 +1,9 @@
+pub mod Any
+pub mod Bits
+pub mod Filled
+pub mod Bytes
+pub mod Agents
+pub mod Tokens
+pub mod Faults
+pub mod Gathered
+pub mod Round

@@ -1,0 +1,194 @@
+-- States and maps, read back from the bytes that they are written as.
+--     words-bytes        the words of the bytes of words are those words
+--     asBytes-length     a state has 132 bytes
+--     asBytes-same       the same agents make the same bytes
+--     agents-round       the agents awake in the bytes written for a set are the set's
+--     state-round        bytes written for a state stand for it
+--     lawful-bytes       bytes written for a lawful state have no fault
+--     faultless-lawful   bytes without fault stand for a lawful state
+--     mapOf-length       a map has 32 bytes
+--     mapOf-same         the same tokens make the same map
+--     map-round          the tokens in the map of a set are the set's below 256
+use mathlib.Core.Path.{_≡_, refl, sym, ap, ap₂, _∙_}
+use mathlib.Core.Bool.{Bool, true, false, cond, not, _&&_, _||_}
+use mathlib.Core.List.{List, [], _∷_, List·Memᴰ, List·Memᴰ·head, List·Memᴰ·tail, List·Memᴰ·not-nil}
+use Prim.Native.Nat.{ℕ, suc, _+_, _*_, _/_, _%_, _^_, _<_, _≤_}
+use borrow.Author.Tests.{ltb-true, lt-ltb, leb-true, le-leb}
+use native.Mathlib.Decide.{decLt}
+use native.Mathlib.Omega.{arith}
+use lib.Dec.{eqb, leb, ltb}
+use lib.ListN.{length, getD, length-map}
+use lib.Pow.{shr-mod, shr-shr, split}
+use Rattle.tcc.specs.Sets.{Same, below, keep, any, has}
+use Rattle.tcc.specs.Instant.{State, running, aborted}
+use Rattle.tcc.proofs.Sets.{Within, true-is-false, any-some, some-any, on-keep, keep-kept, on-cons, on-map, lt-below, has-member, member-has, has-same}
+use Rattle.store.proofs.Flags.{below-length, below-at, map-at}
+use Rattle.words.specs.Word.{joined, words, wordAt}
+use Rattle.words.specs.Map.{inMap}
+use Rattle.lent.specs.Bits.{bitAt, bitsValue, bytesOf}
+use Rattle.lent.specs.Maps.{tokensIn, mapOf}
+use Rattle.lent.specs.States.{runningWord, abortedWord, agentsIn, stateFault, stateOf, agentWords, asBytes, LawfulState, SameState}
+use Rattle.lent.proofs.Agents.{awakeIn, agents-within}
+use Rattle.lent.proofs.Bits.{bitsValue-below, bitsValue-same, bitsValue-bit}
+use Rattle.lent.proofs.Bytes.{bytesOf-length, map-same}
+use Rattle.lent.proofs.Faults.{fault-running, fault-aborted}
+use Rattle.lent.proofs.Tokens.{tokens-within}
+
+by-digits : (w x y z a b c : ℕ) → x * 2 ^ 8 + a ≡ w → y * 2 ^ 8 + b ≡ x → z * 2 ^ 8 + c ≡ y → joined a b c z ≡ w
+by-digits w x y z a b c p q r = omega arith
+
+rejoined : (w : ℕ) → w < 2 ^ 32 → joined (w % 2 ^ 8) (w / 2 ^ 8 % 2 ^ 8) (w / 2 ^ 16 % 2 ^ 8) (w / 2 ^ 24 % 2 ^ 8) ≡ w
+rejoined w h =
+    ap (joined (w % 2 ^ 8) (w / 2 ^ 8 % 2 ^ 8) (w / 2 ^ 16 % 2 ^ 8)) (shr-mod {n = w} 8 24 h)
+    ∙ by-digits w (w / 2 ^ 8) (w / 2 ^ 16) (w / 2 ^ 24) (w % 2 ^ 8) (w / 2 ^ 8 % 2 ^ 8) (w / 2 ^ 16 % 2 ^ 8) (split w 8)
+    (ap (λ x. x * 2 ^ 8 + w / 2 ^ 8 % 2 ^ 8) (sym (shr-shr w 8 8)) ∙ split (w / 2 ^ 8) 8)
+    (ap (λ x. x * 2 ^ 8 + w / 2 ^ 16 % 2 ^ 8) (sym (shr-shr w 16 8)) ∙ split (w / 2 ^ 16) 8)
+
+pub words-bytes : (ws : List ℕ) → Within (λ w. w < 2 ^ 32) ws → words (bytesOf ws) ≡ ws
+unfolding words bytesOf
+words-bytes [] h = refl
+words-bytes (w ∷ ws) h = ap₂ _∷_ (rejoined w (h w (List·Memᴰ·head refl))) (words-bytes ws (λ x m. h x (List·Memᴰ·tail m)))
+
+-- ---- the words of a set of agents
+
+abbrev word : List ℕ → ℕ → ℕ
+word l k = bitsValue (λ j. has (32 * k + j) l) 32
+
+agentWords-length : (l : List ℕ) → length (agentWords l) ≡ 32
+unfolding agentWords
+agentWords-length l = length-map (below 32) (word l) ∙ below-length 32
+
+agentWords-fit : (l : List ℕ) → Within (λ w. w < 2 ^ 32) (agentWords l)
+unfolding agentWords
+agentWords-fit l = on-map (λ w. w < 2 ^ 32) (word l) (below 32) (λ k m. bitsValue-below (λ j. has (32 * k + j) l) 32)
+
+agentWords-at : (l : List ℕ) (k : ℕ) → k < 32 → getD (agentWords l) k 0 ≡ word l k
+unfolding agentWords
+agentWords-at l k h = map-at (word l) (below 32) k 0 0 (omega (arith, below-length 32)) ∙ ap (word l) (below-at 32 k h)
+
+pub agentWords-same : {a b : List ℕ} → Same a b → agentWords a ≡ agentWords b
+unfolding agentWords
+agentWords-same {a} {b} e = map-same (word a) (word b) (below 32) (λ k. bitsValue-same _ _ 32 (λ j h. has-same (32 * k + j) e))
+
+module _ (first : ℕ) (fits : first < 2 ^ 32) (l : List ℕ) where
+  written-words : words (bytesOf (first ∷ agentWords l)) ≡ first ∷ agentWords l
+  written-words = words-bytes (first ∷ agentWords l) (on-cons fits (agentWords-fit l))
+
+  first-word : wordAt (bytesOf (first ∷ agentWords l)) 0 ≡ first
+  first-word = ap (λ ws. getD ws 0 0) written-words
+
+  awake-round : (i : ℕ) → i < 1024 → awakeIn (bytesOf (first ∷ agentWords l)) i ≡ has i l
+  unfolding awakeIn
+  awake-round i h =
+      let n : 1 + i / 32 ≡ suc (i / 32) = omega arith in
+      let e : 32 * (i / 32) + i % 32 ≡ i = omega arith in
+      ap (λ w. bitAt w (i % 32)) (ap (λ ws. getD ws (1 + i / 32) 0) written-words ∙ ap (λ k. getD (first ∷ agentWords l) k 0) n ∙ agentWords-at l (i / 32) (omega arith))
+      ∙ bitsValue-bit (λ j. has (32 * (i / 32) + j) l) 32 (i % 32) (omega arith)
+      ∙ ap (λ k. has k l) e
+
+  pub agents-round : Within (λ i. i < 1024) l → Same (agentsIn (bytesOf (first ∷ agentWords l))) l
+  unfolding agentsIn awakeIn
+  agents-round within i = (to, from)
+    where
+      s : List ℕ
+      s = bytesOf (first ∷ agentWords l)
+
+      to : List·Memᴰ i (keep (awakeIn s) (below 1024)) → List·Memᴰ i l
+      to m = has-member i l (sym (awake-round i (agents-within s i m)) ∙ on-keep {P = λ j. awakeIn s j ≡ true} (awakeIn s) (below 1024) (λ j k p. p) i m)
+
+      from : List·Memᴰ i l → List·Memᴰ i (keep (awakeIn s) (below 1024))
+      from m = let h : i < 1024 = within i m in keep-kept (awakeIn s) (lt-below 1024 h) (awake-round i h ∙ member-has m)
+
+pub asBytes-length : (st : State) → length (asBytes st) ≡ 132
+unfolding asBytes
+asBytes-length (running l) = bytesOf-length (runningWord ∷ agentWords l) ∙ ap (λ n. 4 * suc n) (agentWords-length l)
+asBytes-length aborted = bytesOf-length (abortedWord ∷ agentWords []) ∙ ap (λ n. 4 * suc n) (agentWords-length [])
+
+pub asBytes-same : (a b : State) → SameState a b → asBytes a ≡ asBytes b
+unfolding asBytes SameState
+asBytes-same (running l) (running k) e = ap (λ ws. bytesOf (runningWord ∷ ws)) (agentWords-same e)
+asBytes-same (running l) aborted e = absurd e
+asBytes-same aborted (running k) e = absurd e
+asBytes-same aborted aborted e = refl
+
+pub state-round : (st : State) → LawfulState 1024 st → SameState (stateOf (asBytes st)) st
+unfolding asBytes stateOf LawfulState SameState
+state-round (running l) h = rw (first-word runningWord (omega arith) l) (agents-round runningWord (omega arith) l h)
+state-round aborted h = rw (first-word abortedWord (omega arith) []) tt
+
+-- ---- number 9
+
+none-passes : {A : Type 0} (f : A → Bool) (l : List A) → ((x : A) → List·Memᴰ x l → f x ≡ true → ⊥) → any f l ≡ false
+none-passes f l h = go (any f l) refl
+  where
+    go : (b : Bool) → any f l ≡ b → any f l ≡ false
+    go true e = let found = any-some f l e in absurd (h (found .0) (found .1) (found .2))
+    go false e = e
+
+pub lawful-bytes : (n : ℕ) → n ≤ 1024 → (st : State) → LawfulState n st → stateFault n (asBytes st) ≡ false
+unfolding asBytes LawfulState
+lawful-bytes n b (running l) h =
+    let s : List ℕ = bytesOf (runningWord ∷ agentWords l) in
+    sym (fault-running n s (first-word runningWord (omega arith) l))
+    ∙ none-passes (λ i. leb n i) (agentsIn s)
+    (λ i m p. let k : i < n = h i (agents-round runningWord (omega arith) l (λ j t. let q : j < n = h j t in omega arith) i .0 m) in omega (arith, leb-true n i p))
+lawful-bytes n b aborted h =
+    let s : List ℕ = bytesOf (abortedWord ∷ agentWords []) in
+    sym (fault-aborted n s (first-word abortedWord (omega arith) []))
+    ∙ none-passes (λ i. leb 0 i) (agentsIn s) (λ i m p. List·Memᴰ·not-nil (agents-round abortedWord (omega arith) [] (λ j t. absurd (List·Memᴰ·not-nil t)) i .0 m))
+
+middle : (a b c : Bool) → (a || b || c) ≡ false → b ≡ false
+middle true b c e = absurd (true-is-false refl e)
+middle false true c e = absurd (true-is-false refl e)
+middle false false c e = refl
+
+pub faultless-lawful : (n : ℕ) (s : List ℕ) → stateFault n s ≡ false → LawfulState n (stateOf s)
+unfolding stateFault stateOf LawfulState
+faultless-lawful n s e = go (eqb (wordAt s 0) abortedWord)
+  where
+    none : any (λ i. leb n i) (agentsIn s) ≡ false
+    none = middle (not (eqb (wordAt s 0) runningWord || eqb (wordAt s 0) abortedWord)) (any (λ i. leb n i) (agentsIn s)) (eqb (wordAt s 0) abortedWord && any (λ i. leb 0 i) (agentsIn s)) e
+
+    below-n : (i : ℕ) → List·Memᴰ i (agentsIn s) → Dec (i < n) → i < n
+    below-n i m (yes h) = h
+    below-n i m (no h) = absurd (true-is-false (some-any (λ j. leb n j) m (le-leb n i (omega arith))) none)
+
+    go : (b : Bool) → LawfulState n (cond b aborted (running (agentsIn s)))
+    go true = tt
+    go false = λ i m. below-n i m (decLt i n)
+
+-- ---- maps
+
+abbrev byte : List ℕ → ℕ → ℕ
+byte l k = bitsValue (λ j. has (8 * k + j) l) 8
+
+pub mapOf-length : (l : List ℕ) → length (mapOf l) ≡ 32
+unfolding mapOf
+mapOf-length l = length-map (below 32) (byte l) ∙ below-length 32
+
+pub mapOf-same : {a b : List ℕ} → Same a b → mapOf a ≡ mapOf b
+unfolding mapOf
+mapOf-same {a} {b} e = map-same (byte a) (byte b) (below 32) (λ k. bitsValue-same _ _ 8 (λ j h. has-same (8 * k + j) e))
+
+token-round : (l : List ℕ) (t : ℕ) → t < 256 → inMap (mapOf l) t ≡ has t l
+unfolding mapOf inMap
+token-round l t h =
+    let e : 8 * (t / 8) + t % 8 ≡ t = omega arith in
+    ap (λ w. bitAt w (t % 8)) (map-at (byte l) (below 32) (t / 8) 0 0 (omega (arith, below-length 32)) ∙ ap (byte l) (below-at 32 (t / 8) (omega arith)))
+    ∙ bitsValue-bit (λ j. has (8 * (t / 8) + j) l) 8 (t % 8) (omega arith)
+    ∙ ap (λ k. has k l) e
+
+pub map-round : (l : List ℕ) → Same (tokensIn (mapOf l)) (keep (λ t. ltb t 256) l)
+unfolding tokensIn
+map-round l t = (to, from)
+  where
+    to : List·Memᴰ t (keep (inMap (mapOf l)) (below 256)) → List·Memᴰ t (keep (λ u. ltb u 256) l)
+    to m =
+        let h : t < 256 = tokens-within (mapOf l) t m in
+        keep-kept (λ u. ltb u 256) (has-member t l (sym (token-round l t h) ∙ on-keep {P = λ j. inMap (mapOf l) j ≡ true} (inMap (mapOf l)) (below 256) (λ j k p. p) t m)) (lt-ltb t 256 h)
+
+    from : List·Memᴰ t (keep (λ u. ltb u 256) l) → List·Memᴰ t (keep (inMap (mapOf l)) (below 256))
+    from m =
+        let h : t < 256 = on-keep {P = λ u. u < 256} (λ u. ltb u 256) l (λ u k p. ltb-true u 256 p) t m in
+        let k : List·Memᴰ t l = on-keep {P = λ u. List·Memᴰ u l} (λ u. ltb u 256) l (λ u k p. k) t m in
+        keep-kept (inMap (mapOf l)) (lt-below 256 h) (token-round l t h ∙ member-has k)
