@@ -1,0 +1,196 @@
+-- The answers of score_instant.
+--     one-exit         the contract settles the buffers and the number returned
+--     fits             every reply has room in an answer
+--     called-fits, returned
+--                      so has what an instant call replies, and returning it, packed, meets the contract
+--     read             a caller reads the reply's number, value, status and count
+--     one-answer       two calls that return the same number replied the same
+use mathlib.Core.Path.{_≡_, refl, sym, ap, subst⁻¹, _∙_}
+use mathlib.Core.Bool.{Bool, true, false, cond, not}
+use mathlib.Core.List.{List, [], _∷_}
+use Prim.Native.Nat.{ℕ, zero, suc, _^_, _<_, _≤_}
+use native.Mathlib.Omega.{arith}
+use borrow.Author.Tests.{le-leb, ne-eqb, eqb-false}
+use lib.Dec.{eqb, leb}
+use lib.ListN.{length, length-map, length-take, length-append}
+use Rattle.tcc.specs.Sets.{below, keep, any, has}
+use Rattle.tcc.specs.Score.{Score, agentAt}
+use Rattle.tcc.specs.Instant.{State as Between, running, aborted, Answer, count, abortedAnswer, quietAnswer, liveIn, heldIn, isAbort, reached, instant, answer, after}
+use Rattle.format.specs.Decode.{sizes, decode}
+use Rattle.format.proofs.Decode.{sizes-few}
+use Rattle.scorefile.specs.declared.Verdict.{Verdict}
+use Rattle.scorefile.specs.declared.Verdict.the-variants.{Accepted}
+use Rattle.scorefile.specs.Check.{verdict}
+use Rattle.scorefile.specs.Check as check
+use Rattle.scorefile.proofs.Values.{verdict-small, number-few, verdict-settled}
+use Rattle.lent.specs.Maps.{tokensIn}
+use Rattle.lent.specs.States.{stateFault, stateOf, asBytes}
+use Rattle.instant.specs.declared.Reply.{Reply as Replied}
+use Rattle.instant.specs.declared.Reply.the-variants.{Score as Turned, Lengths, State, Input, Next, Settled}
+use Rattle.instant.specs.InstantCall.{Lent, Exit, lengthFault, tokenFault, kept, exit, InstantCall}
+use Rattle.score.specs.Answer.{numberOf, valueOf, statusOf, countOf, Fits, packed, Reads}
+use Rattle.score.specs.ScoreInstant.{ofReply, ScoreInstant, OneExit, OneAnswer}
+use Rattle.score.proofs.Answer.{exact}
+use Rattle.score.proofs.CheckCall.{reply-number, reply-value, reply-fits}
+
+pub one-exit : OneExit
+one-exit score input before after₁ after₂ a b p q = (p .written ∙ sym (q .written), p .answered ∙ sym (q .answered))
+
+-- an answer's status is 0, 1 or 2, and no more agents are reduced than the score has
+record Bounded (sc : Score) (a : Answer) : Type 0 where
+  status : a .status ≤ 2
+  count : count a ≤ length (sc .agents)
+
+below-length : (n : ℕ) → length (below n) ≡ n
+below-length zero = refl
+below-length (suc n) = simp length-append (omega (arith, below-length n))
+
+keep-length : (f : ℕ → Bool) (l : List ℕ) → length (keep f l) ≤ length l
+keep-length f [] = omega arith
+keep-length f (x ∷ l) = go (f x) (keep-length f l)
+  where
+    go : (b : Bool) → length (keep f l) ≤ length l → length (cond b (x ∷ keep f l) (keep f l)) ≤ suc (length l)
+    go true h = omega arith
+    go false h = omega arith
+
+keep-below : (f : ℕ → Bool) (n : ℕ) → length (keep f (below n)) ≤ n
+keep-below f n = omega (arith, keep-length f (below n), below-length n)
+
+clash-small : (b : Bool) → cond b 1 0 ≤ 2
+clash-small true = omega arith
+clash-small false = omega arith
+
+either-bounded : (sc : Score) (b : Bool) (store lives : List ℕ) → Bounded sc (cond b abortedAnswer (quietAnswer sc store lives))
+either-bounded sc true store lives = record { status = omega arith; count = omega arith }
+either-bounded sc false store lives = record { status = clash-small (has 0 store); count = keep-below _ (length (sc .agents)) }
+
+answer-bounded : (sc : Score) (st : Between) (inputs : List ℕ) → Bounded sc (answer sc st inputs)
+unfolding answer instant
+answer-bounded sc (running agents) inputs =
+    let facts = reached sc agents inputs in
+    either-bounded sc (any (λ i. isAbort (agentAt sc i)) (liveIn facts)) (heldIn facts) (liveIn facts)
+answer-bounded sc aborted inputs = record { status = omega arith; count = omega arith }
+
+agents-few : (s : List ℕ) → length (decode s .agents) ≤ 1024
+unfolding decode
+agents-few s = simp (length-map, length-take) (omega (arith, sizes-few s))
+
+-- what the replies of a call have in common
+data Proper : Replied → Type 0 where
+  turned : (v : Verdict) → (check.numberOf v ≡ 0 → ⊥) → check.valueOf v < 2 ^ 24 → Proper (Turned v)
+  lengths : Proper Lengths
+  state : Proper State
+  input : Proper Input
+  follows : Proper Next
+  settles : (s c : ℕ) → s < 4 → c < 2 ^ 11 → Proper (Settled s c)
+
+record Replies (e : Exit) : Type 0 where
+  proper : Proper (e .reply)
+
+either : (b : Bool) {x y : Exit} → Replies x → Replies y → Replies (cond b x y)
+either true p q = p
+either false p q = q
+
+checked-first : (v : Verdict) (l : Lent) {y : Exit} → check.valueOf v < 2 ^ 24 → Replies y → Replies (cond (not (eqb (check.numberOf v) 0)) (kept l (Turned v)) y)
+checked-first v l {y} h q = go (eqb (check.numberOf v) 0) refl
+  where
+    go : (b : Bool) → eqb (check.numberOf v) 0 ≡ b → Replies (cond (not b) (kept l (Turned v)) y)
+    go true e = q
+    go false e = record { proper = turned v (eqb-false (check.numberOf v) 0 e) h }
+
+answered-proper : (score : List ℕ) (a : Answer) → Bounded (decode score) a → Proper (Settled (a .status) (count a))
+answered-proper score a b = settles (a .status) (count a) (omega (arith, b .status)) (omega (arith, b .count, agents-few score))
+
+exit-replies : (score given : List ℕ) (l : Lent) → Replies (exit score given l)
+unfolding exit
+exit-replies score given l =
+    let a = answer (decode score) (stateOf (l .state)) (tokensIn given) in
+    checked-first (verdict score) l (verdict-small score)
+    (either (lengthFault given l) (record { proper = lengths })
+    (either (stateFault (sizes score .agents) (l .state)) (record { proper = state })
+    (either (tokenFault score given) (record { proper = input })
+    (either (stateFault (sizes score .agents) (asBytes (after a))) (record { proper = follows })
+    (record { proper = answered-proper score a (answer-bounded (decode score) (stateOf (l .state)) (tokensIn given)) })))))
+
+proper-fits : {r : Replied} → Proper r → Fits (ofReply r)
+proper-fits (turned v n h) = reply-fits (check.numberOf v) (check.valueOf v) (number-few v) h
+proper-fits lengths = (omega arith, omega arith, λ h. omega arith, omega arith)
+proper-fits state = (omega arith, omega arith, λ h. omega arith, omega arith)
+proper-fits input = (omega arith, omega arith, λ h. omega arith, omega arith)
+proper-fits follows = (omega arith, omega arith, λ h. omega arith, omega arith)
+proper-fits (settles s c p q) = (p, q)
+
+pub fits : (score given : List ℕ) (l : Lent) → Fits (ofReply (exit score given l .reply))
+fits score given l = proper-fits (exit-replies score given l .proper)
+
+-- of what an instant call ensures
+module _ {score given : List ℕ} {l m : Lent} {r : Replied} (called : InstantCall score given l m r) where
+  pub called-fits : Fits (ofReply r)
+  called-fits = subst⁻¹ (λ (x : Replied). Fits (ofReply x)) (ap (λ (e : Exit). e .reply) (called .exits)) (fits score given l)
+
+  pub returned : {a : ℕ} → a ≡ packed (ofReply r) → ScoreInstant score given l m a
+  returned e = record { written = ap (λ (x : Exit). x .lent) (called .exits); answered = e ∙ ap (λ (x : Exit). packed (ofReply (x .reply))) (called .exits) }
+
+pub read : (score given : List ℕ) (l m : Lent) (a : ℕ) → ScoreInstant score given l m a → Reads a (ofReply (exit score given l .reply))
+read score given l m a c = rw (c .answered) (exact (ofReply (exit score given l .reply)) (fits score given l))
+
+-- a reply by its verdict, number, status and count
+abbrev replyBy : Verdict → ℕ → ℕ → ℕ → Replied
+replyBy v n s c =
+    cond (eqb n 0) (Settled s c) (cond (eqb n 8) Lengths (cond (eqb n 9) State (cond (eqb n 10) Input (cond (eqb n 11) Next (Turned v)))))
+
+-- the verdict of a reply that turns the score down
+abbrev verdictIn : Replied → Verdict
+verdictIn (Turned v) = v
+verdictIn Lengths = Accepted
+verdictIn State = Accepted
+verdictIn Input = Accepted
+verdictIn Next = Accepted
+verdictIn (Settled s c) = Accepted
+
+verdict-number : {r : Replied} → Proper r → check.numberOf (verdictIn r) ≡ cond (leb (numberOf (ofReply r)) 7) (numberOf (ofReply r)) 0
+verdict-number (turned v n h) = rw (reply-number (check.numberOf v) (check.valueOf v), le-leb (check.numberOf v) 7 (number-few v))
+verdict-number lengths = refl
+verdict-number state = refl
+verdict-number input = refl
+verdict-number follows = refl
+verdict-number (settles s c p q) = refl
+
+verdict-value : {r : Replied} → Proper r → check.valueOf (verdictIn r) ≡ valueOf (ofReply r)
+verdict-value (turned v n h) = sym (reply-value (check.numberOf v) (check.valueOf v))
+verdict-value lengths = refl
+verdict-value state = refl
+verdict-value input = refl
+verdict-value follows = refl
+verdict-value (settles s c p q) = refl
+
+by-itself : {r : Replied} → Proper r → r ≡ replyBy (verdictIn r) (numberOf (ofReply r)) (statusOf (ofReply r)) (countOf (ofReply r))
+by-itself (turned v n h) =
+    let few = number-few v in
+    let m = check.numberOf v in
+    rw (reply-number m (check.valueOf v), ne-eqb m 0 n, ne-eqb m 8 (λ z. omega arith), ne-eqb m 9 (λ z. omega arith), ne-eqb m 10 (λ z. omega arith), ne-eqb m 11 (λ z. omega arith))
+by-itself lengths = refl
+by-itself state = refl
+by-itself input = refl
+by-itself follows = refl
+by-itself (settles s c p q) = refl
+
+same-verdict : {r t : Replied} → Proper r → Proper t → numberOf (ofReply r) ≡ numberOf (ofReply t) → valueOf (ofReply r) ≡ valueOf (ofReply t) → verdictIn r ≡ verdictIn t
+same-verdict {r} {t} p q n v =
+    verdict-settled (verdictIn r) (verdictIn t)
+    (verdict-number p ∙ ap (λ m. cond (leb m 7) m 0) n ∙ sym (verdict-number q))
+    (verdict-value p ∙ v ∙ sym (verdict-value q))
+
+reply-settled : (r t : Replied) (a : ℕ) → Proper r → Proper t → Reads a (ofReply r) → Reads a (ofReply t) → r ≡ t
+reply-settled r t a p q x y =
+    let n : numberOf (ofReply r) ≡ numberOf (ofReply t) = sym (x .number) ∙ y .number in
+    let s : statusOf (ofReply r) ≡ statusOf (ofReply t) = sym (x .status) ∙ y .status in
+    let c : countOf (ofReply r) ≡ countOf (ofReply t) = sym (x .count) ∙ y .count in
+    let v : verdictIn r ≡ verdictIn t = same-verdict p q n (sym (x .value) ∙ y .value) in
+    by-itself p ∙ rw (n, s, c, v) (sym (by-itself q))
+
+pub one-answer : OneAnswer
+one-answer score₁ input₁ score₂ input₂ before₁ after₁ before₂ after₂ a p q =
+    reply-settled (exit score₁ input₁ before₁ .reply) (exit score₂ input₂ before₂ .reply) a
+    (exit-replies score₁ input₁ before₁ .proper) (exit-replies score₂ input₂ before₂ .proper)
+    (read score₁ input₁ before₁ after₁ a p) (read score₂ input₂ before₂ after₂ a q)

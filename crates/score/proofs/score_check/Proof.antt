@@ -1,0 +1,24 @@
+-- `score_check`: the verdict, packed.
+use mathlib.Core.Path.{ap, _∙_}
+use Rattle.scorefile.specs.Check.{numberOf, valueOf, verdict}
+use Rattle.scorefile.proofs.Values.{verdict-small, number-few}
+use Rattle.score.specs.Answer.{packed}
+use Rattle.score.specs.CheckCall.{ofVerdict}
+use Rattle.score.proofs.CheckCall.{reply-fits}
+use borrow.Author.Needs.{needs}
+use Rattle.score.proofs.score_check.Statement.{statement}
+use Rattle.score.proofs.score_check.Tie as tie
+
+check-requires : tie.Need-check-requires
+check-requires c κs = search needs
+
+of-verdict-requires : tie.Need-of-verdict-requires
+of-verdict-requires c κs =
+    let s = c .before .before .args .score .now in
+    rw (c .check .ensures) (reply-fits (numberOf (verdict s)) (valueOf (verdict s)) (number-few (verdict s)) (verdict-small s))
+
+returns : tie.Need-returns
+returns c = record { answered = c .of-verdict .ensures ∙ ap (λ v. packed (ofVerdict v)) (c .before .check .ensures) }
+
+pub score-check-spec : {M : Type 1} → statement M
+score-check-spec = tie.close (tie.spec check-requires of-verdict-requires returns)

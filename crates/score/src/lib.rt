@@ -1,0 +1,76 @@
+ghost use mathlib.Core.Path.{_≡_};
+ghost use Prim.Native.Nat.{_<_, _^_};
+ghost use Rattle.instant.specs.InstantCall.{lent};
+ghost use Rattle.score.specs.Answer.{refused, settled, packed, Fits};
+ghost use Rattle.score.specs.CheckCall.{ofVerdict, CheckCall};
+ghost use Rattle.score.specs.ScoreInstant.{ofReply, ScoreInstant};
+use instant::Reply;
+use scorefile::Verdict;
+
+// Checks a score.
+#[no_mangle]
+pub extern "C" fn score_check(score: &[u8]) -> u64
+    ensures { λ r. ⌜ CheckCall (now (score .entry)) r ⌝ }
+{
+    of_verdict(scorefile::check(score))
+}
+
+// Plays one instant of a score.
+#[no_mangle]
+pub extern "C" fn score_instant(
+    score: &[u8],
+    state: &mut [u8],
+    input: &[u8],
+    store: &mut [u8],
+    output: &mut [u8],
+    scratch: &mut [u8],
+) -> u64
+    ensures { λ r. ⌜ ScoreInstant (now (score .entry)) (now (input .entry)) (lent (now (state .entry)) (now (store .entry)) (now (output .entry)) (now (scratch .entry))) (lent (now (state .exit)) (now (store .exit)) (now (output .exit)) (now (scratch .exit))) r ⌝ }
+{
+    of_reply(instant::call(score, state, input, store, output, scratch))
+}
+
+// A verdict as an answer.
+fn of_verdict(verdict: Verdict) -> u64
+    requires { ⌜ Fits (ofVerdict verdict) ⌝ }
+    ensures { λ r. ⌜ r ≡ packed (ofVerdict verdict) ⌝ }
+{
+    let number = scorefile::number_of(verdict);
+    if number == 0 {
+        return 0;
+    }
+    refusal(number, scorefile::value_of(verdict))
+}
+
+// The reply of an instant call as an answer.
+fn of_reply(reply: Reply) -> u64
+    requires { ⌜ Fits (ofReply reply) ⌝ }
+    ensures { λ r. ⌜ r ≡ packed (ofReply reply) ⌝ }
+{
+    match reply {
+        Reply::Score(verdict) => of_verdict(verdict),
+        Reply::Lengths => refusal(8, 0),
+        Reply::State => refusal(9, 0),
+        Reply::Input => refusal(10, 0),
+        Reply::Next => refusal(11, 0),
+        Reply::Settled(status, count) => settling(status, count),
+    }
+}
+
+// An answer whose number has a small value.
+fn refusal(number: usize, value: usize) -> u64
+    requires { ⌜ number < 13 ⌝ }
+    requires { ⌜ value < 2 ^ 24 ⌝ }
+    ensures { λ r. ⌜ r ≡ packed (refused number value) ⌝ }
+{
+    0x2000_0000_0000_0000 + value as u64 * 256 + number as u64
+}
+
+// The answer of an accepted instant.
+fn settling(status: usize, count: usize) -> u64
+    requires { ⌜ status < 4 ⌝ }
+    requires { ⌜ count < 2 ^ 11 ⌝ }
+    ensures { λ r. ⌜ r ≡ packed (settled status count) ⌝ }
+{
+    0x2000_0000_0000_0000 + status as u64 * 0x1_0000_0000 + count as u64 * 0x4_0000_0000
+}
