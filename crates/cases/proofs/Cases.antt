@@ -1,0 +1,100 @@
+-- The marked cases hold: antt runs the definitions on each. Of a refused call it runs the score check and what is asked
+-- of one agent or token; the agents and tokens of whole buffers are found by the laws of crate lent.
+use mathlib.Core.Path.{_≡_, refl, sym, _∙_}
+use mathlib.Core.Bool.{true, false}
+use mathlib.Core.List.{List, [], _∷_, List·Memᴰ·eq-of-singleton}
+use Prim.Native.Nat.{ℕ, _+_, _/_, _%_}
+use native.Mathlib.Omega.{arith}
+use lib.Dec.{leb}
+use lib.ListN.{length}
+use Rattle.tcc.specs.Closure.{fires, firing, closeWithin, close}
+use Rattle.tcc.specs.Sets.{any}
+use Rattle.tcc.specs.Unguarded.{metFrom, circular}
+use Rattle.tcc.specs.Instant.{running, reached, instant, answer, answers}
+use Rattle.tcc.proofs.Sets.{some-any, keep-kept, lt-below}
+use Rattle.words.specs.Word.{words, wordAt, field}
+use Rattle.words.specs.Map.{inMap}
+use Rattle.format.specs.Format.{isWord, decodeAgent}
+use Rattle.format.specs.Decode.{sizes, decode}
+use Rattle.scorefile.specs.declared.Verdict.the-variants.{Length}
+use Rattle.scorefile.specs.Check.{numberOf, wordVerdict, firstFault, circleFrom, lengthVerdict, verdict}
+use Rattle.lent.specs.Bits.{bitAt, bitsValue, bytesOf}
+use Rattle.lent.specs.Maps.{tokensIn}
+use Rattle.lent.specs.States.{agentsIn, stateFault, agentWords, asBytes, LawfulState}
+use Rattle.lent.proofs.Faults.{fault-running}
+use Rattle.lent.proofs.Round.{lawful-bytes}
+use Rattle.instant.specs.declared.Reply.the-variants.{State, Input}
+use Rattle.instant.specs.InstantCall.{Lent, lent, lengthFault, tokenFault, kept, exit}
+use Rattle.cases.specs.Cases.{bytes, turned-down, Holds, sample, state-with, input-with, Marked}
+
+refused-length : (n : ℕ) → lengthVerdict n ≡ Length → (s : List ℕ) → length s ≡ n → verdict s ≡ Length
+unfolding verdict
+refused-length n e s h = rw (h, e)
+
+lengths-right : (state input store output scratch : List ℕ) → length state ≡ 132 → length input ≡ 32 → length store ≡ 32 → length output ≡ 32 → length scratch ≡ 2048 →
+    lengthFault input (lent state store output scratch) ≡ false
+lengths-right state input store output scratch a b c d e = rw (a, b, c, d, e)
+
+module _ (score input : List ℕ) (l : Lent) (accepted : numberOf (verdict score) ≡ 0) (right : lengthFault input l ≡ false) where
+  bad-state : stateFault (sizes score .agents) (l .state) ≡ true → exit score input l ≡ kept l State
+  unfolding exit
+  bad-state e = rw (accepted, right, e)
+
+  bad-input : stateFault (sizes score .agents) (l .state) ≡ false → tokenFault score input ≡ true → exit score input l ≡ kept l Input
+  unfolding exit
+  bad-input e t = rw (accepted, right, e, t)
+
+-- agent 5 is awake, of five agents
+agent-5 : stateFault 5 (bytes (state-with 0x20)) ≡ true
+unfolding words field agentsIn
+agent-5 =
+    let s = bytes (state-with 0x20) in
+    sym (fault-running 5 s refl) ∙ some-any (λ i. leb 5 i) (keep-kept (λ i. bitAt (wordAt s (1 + i / 32)) (i % 32)) (lt-below 1024 {i = 5} (omega arith)) refl) refl
+
+agent-4-bytes : bytes (state-with 0x10) ≡ asBytes (running (4 ∷ []))
+unfolding asBytes agentWords bitsValue bytesOf
+agent-4-bytes = refl
+
+agent-4 : stateFault 5 (bytes (state-with 0x10)) ≡ false
+unfolding LawfulState
+agent-4 = rw agent-4-bytes (lawful-bytes 5 (omega arith) (running (4 ∷ [])) (λ i m. let e = List·Memᴰ·eq-of-singleton m in omega arith))
+
+-- token 4 is in the map, of four tokens
+token-4 : any (λ t. leb 4 t) (tokensIn (input-with 0x10)) ≡ true
+unfolding field inMap tokensIn
+token-4 = some-any (λ t. leb 4 t) (keep-kept (inMap (input-with 0x10)) (lt-below 256 {i = 4} (omega arith)) refl) refl
+
+sample-accepted : numberOf (verdict (bytes sample)) ≡ 0
+unfolding fires firing closeWithin close metFrom circular words field isWord decodeAgent decode wordVerdict firstFault circleFrom verdict
+sample-accepted = refl
+
+state-refused : Holds (turned-down sample (state-with 0x20) (input-with 0) State)
+unfolding words field
+state-refused store output scratch h i j =
+    bad-state (bytes sample) (input-with 0) (lent (bytes (state-with 0x20)) store output scratch) sample-accepted
+    (lengths-right (bytes (state-with 0x20)) (input-with 0) store output scratch refl refl h i j) agent-5
+
+input-refused : Holds (turned-down sample (state-with 0x10) (input-with 0x10) Input)
+unfolding words field
+input-refused store output scratch h i j =
+    bad-input (bytes sample) (input-with 0x10) (lent (bytes (state-with 0x10)) store output scratch) sample-accepted
+    (lengths-right (bytes (state-with 0x10)) (input-with 0x10) store output scratch refl refl h i j) agent-4 token-4
+
+pub marked : Marked
+unfolding fires firing closeWithin close metFrom circular reached instant answer answers words field isWord decodeAgent decode wordVerdict firstFault circleFrom verdict
+marked = (
+  refl,
+  (
+    refl,
+    (
+      refused-length 0 refl,
+      (
+        refused-length 3 refl,
+        (
+          refused-length 5388 refl,
+          (refl, (refl, (refl, (refl, (state-refused, (input-refused, (refl, (refl, (refl, (refl, (refl, (refl, tt)))))))))))),
+        ),
+      ),
+    ),
+  ),
+)
