@@ -1,0 +1,359 @@
+/* calls.c: the calls over lent buffers, around an engine's instant. */
+#include "calls.h"
+
+#include <string.h>
+
+#include "baseline.h"
+#include "score.h"
+
+enum { STATE_LEN = 132, MAP_LEN = 32, SCRATCH_LEN = 2048 };
+
+enum { LENT_LENGTH = 8, LENT_STATE = 9, LENT_INPUT = 10, KEPT_LENGTH = 12 };
+
+/* The numbers 13, 14 and 15 are laid out by their own. */
+static const uint64_t KEPT_FORM = UINT64_C(2) << 61, KEPT_DIFFERS = UINT64_C(3) << 61, KEPT_FULL = UINT64_C(4) << 61;
+
+static const uint32_t RUNNING_WORD = 0xF0000000, ABORTED_WORD = 0xF0000001;
+
+struct state {
+    int aborted;
+    struct agents agents;
+};
+
+static uint64_t refusal(uint32_t number)
+{
+    return UINT64_C(1) << 61 | number;
+}
+
+static void put_word(uint8_t *bytes, size_t word, uint32_t value)
+{
+    uint8_t *byte = bytes + 4 * word;
+    byte[0] = (uint8_t)value;
+    byte[1] = (uint8_t)(value >> 8);
+    byte[2] = (uint8_t)(value >> 16);
+    byte[3] = (uint8_t)(value >> 24);
+}
+
+static void take_apart(struct score *score, const uint8_t *bytes, size_t len)
+{
+    uint32_t head = word_at(bytes, 0), ports = word_at(bytes, 1);
+    score->tokens = (head & 0xFF) + 1;
+    score->agents = (head >> 8 & 0x3FF) + 1;
+    score->procedures = (head >> 18 & 0x3F) + 1;
+    score->rules = (uint32_t)(len / 4) - 2 - score->agents - score->procedures;
+    score->lowest_port = ports & 0xFF;
+    score->highest_port = ports >> 8 & 0xFF;
+    score->agent_words = bytes + 8;
+    score->procedure_words = score->agent_words + 4 * (size_t)score->agents;
+    score->rule_words = score->procedure_words + 4 * (size_t)score->procedures;
+}
+
+/* 0 if the state meets number 9. */
+static int read_state(struct state *state, const struct score *score, const uint8_t *bytes)
+{
+    uint32_t word_0 = word_at(bytes, 0), any = 0, beyond = 0, i;
+    for (i = 0; i < AGENTS_MAX / 32; i++) {
+        uint32_t word = word_at(bytes, 1 + i);
+        uint32_t known = score->agents <= 32 * i ? 0 : score->agents - 32 * i;
+        state->agents.words[i] = word;
+        any |= word;
+        beyond |= known >= 32 ? 0 : word >> known;
+    }
+    state->aborted = word_0 == ABORTED_WORD;
+    if (state->aborted)
+        return any == 0;
+    return word_0 == RUNNING_WORD && beyond == 0;
+}
+
+static void write_state(uint8_t *bytes, const struct state *state)
+{
+    uint32_t i;
+    put_word(bytes, 0, state->aborted ? ABORTED_WORD : RUNNING_WORD);
+    for (i = 0; i < AGENTS_MAX / 32; i++)
+        put_word(bytes, 1 + i, state->agents.words[i]);
+}
+
+static void read_map(struct tokens *tokens, const uint8_t *bytes)
+{
+    uint32_t i, byte;
+    for (i = 0; i < TOKENS_MAX / 64; i++) {
+        tokens->words[i] = 0;
+        for (byte = 0; byte < 8; byte++)
+            tokens->words[i] |= (uint64_t)bytes[8 * i + byte] << 8 * byte;
+    }
+}
+
+static void write_map(uint8_t *bytes, const struct tokens *tokens)
+{
+    uint32_t i;
+    for (i = 0; i < MAP_LEN; i++)
+        bytes[i] = (uint8_t)(tokens->words[i / 8] >> 8 * (i % 8));
+}
+
+/* The tokens of word i from lowest to highest. */
+static uint64_t between(uint32_t i, uint32_t lowest, uint32_t highest)
+{
+    uint64_t from, to;
+    if (highest < 64 * i || lowest >= 64 * (i + 1))
+        return 0;
+    from = lowest <= 64 * i ? ~UINT64_C(0) : ~UINT64_C(0) << lowest % 64;
+    to = highest >= 64 * i + 63 ? ~UINT64_C(0) : (UINT64_C(2) << highest % 64) - 1;
+    return from & to;
+}
+
+static int has_unknown_token(const struct tokens *tokens, const struct score *score)
+{
+    uint64_t unknown = 0;
+    uint32_t i;
+    for (i = 0; i < TOKENS_MAX / 64; i++)
+        unknown |= tokens->words[i] & ~between(i, 0, score->tokens - 1);
+    return unknown != 0;
+}
+
+static void output_of(struct tokens *output, const struct score *score, const struct tokens *store)
+{
+    uint32_t i;
+    for (i = 0; i < TOKENS_MAX / 64; i++)
+        output->words[i] = store->words[i] & between(i, score->lowest_port, score->highest_port);
+}
+
+/* One instant: changes the state to the next one. */
+static void step(const struct engine *engine, const struct score *score, const struct index *index,
+                 struct state *state, const struct tokens *input, struct end *end)
+{
+    if (!state->aborted)
+        engine->instant(score, index, &state->agents, input, end);
+    if (state->aborted || end->status == ABORTED) {
+        memset(end, 0, sizeof *end);
+        end->status = ABORTED;
+        state->aborted = 1;
+    }
+    state->agents = end->awake;
+}
+
+uint64_t call_instant(const struct engine *engine, const uint8_t *score_bytes, size_t score_len, uint8_t *state_bytes,
+                      size_t state_len, const uint8_t *input_bytes, size_t input_len, uint8_t *store_bytes,
+                      size_t store_len, uint8_t *output_bytes, size_t output_len, uint8_t *scratch, size_t scratch_len)
+{
+    uint64_t fault = baseline_check(score_bytes, score_len);
+    struct score score;
+    struct index index;
+    struct state state;
+    struct tokens input, output;
+    struct end end;
+    if (fault)
+        return fault;
+    if (state_len != STATE_LEN || input_len != MAP_LEN || store_len != MAP_LEN || output_len != MAP_LEN
+        || scratch_len != SCRATCH_LEN)
+        return refusal(LENT_LENGTH);
+    take_apart(&score, score_bytes, score_len);
+    if (!read_state(&state, &score, state_bytes))
+        return refusal(LENT_STATE);
+    read_map(&input, input_bytes);
+    if (has_unknown_token(&input, &score))
+        return refusal(LENT_INPUT);
+    engine->prepare(&score, &index);
+    step(engine, &score, &index, &state, &input, &end);
+    output_of(&output, &score, &end.store);
+    write_state(state_bytes, &state);
+    write_map(store_bytes, &end.store);
+    write_map(output_bytes, &output);
+    memset(scratch, 0, SCRATCH_LEN);
+    return UINT64_C(1) << 61 | (uint64_t)end.status << 32 | (uint64_t)end.count << 34;
+}
+
+/* The word that a list's or journal's word may not be below, to come after the one before it in the same instant. */
+static uint32_t least_after(uint32_t before)
+{
+    return kind_of(before) == INSTANT ? (uint32_t)INPUT << 28 : before + 1;
+}
+
+/* The lowest word against the form of a list, whose highest status is 0, or of a journal, whose highest is 2; `words`
+ * if there is none.
+ */
+static size_t lowest_fault(const uint8_t *bytes, size_t words, uint32_t highest_status, uint32_t tokens)
+{
+    uint32_t last_kind = highest_status ? OUTPUT : INPUT, least = 0;
+    size_t at;
+    for (at = 0; at < words; at++) {
+        uint32_t word = word_at(bytes, at), low = word & 0x0FFFFFFF;
+        if (kind_of(word) == INSTANT) {
+            if (low > highest_status)
+                return at;
+        } else if (at == 0 || word < least || kind_of(word) > last_kind || low >= tokens) {
+            return at;
+        }
+        least = least_after(word);
+    }
+    return words;
+}
+
+/* 0, or number 12 or 13. */
+static uint64_t kept_fault(const uint8_t *bytes, size_t len, uint32_t highest_status, uint32_t tokens)
+{
+    size_t fault;
+    if (len % 4 != 0)
+        return refusal(KEPT_LENGTH);
+    fault = lowest_fault(bytes, len / 4, highest_status, tokens);
+    return fault < len / 4 ? KEPT_FORM | fault : 0;
+}
+
+/* The input tokens of the instant whose word is at `at`; the word behind them. */
+static size_t read_inputs(struct tokens *input, const uint8_t *bytes, size_t words, size_t at)
+{
+    memset(input, 0, sizeof *input);
+    for (at++; at < words && kind_of(word_at(bytes, at)) == INPUT; at++)
+        add_token(input, token_of(word_at(bytes, at)));
+    return at;
+}
+
+static size_t count_tokens(const struct tokens *tokens)
+{
+    size_t count = 0, i;
+    for (i = 0; i < TOKENS_MAX / 64; i++)
+        count += (size_t)__builtin_popcountll(tokens->words[i]);
+    return count;
+}
+
+static void write_outputs(uint8_t *bytes, const struct tokens *output)
+{
+    size_t word = 0;
+    uint32_t i;
+    for (i = 0; i < TOKENS_MAX / 64; i++) {
+        uint64_t left = output->words[i];
+        while (left)
+            put_word(bytes, word++, (uint32_t)OUTPUT << 28 | (64 * i + take_lowest(&left)));
+    }
+}
+
+struct room {
+    uint8_t *bytes;
+    size_t left;
+};
+
+/* Writes an instant, whose word and inputs stand in the list; 0 if there is no room for it. */
+static int write_instant(struct room *journal, const uint8_t *inputs, size_t inputs_len, uint32_t status,
+                         const struct tokens *output)
+{
+    size_t len = inputs_len + 4 * count_tokens(output);
+    if (len > journal->left)
+        return 0;
+    memcpy(journal->bytes, inputs, inputs_len);
+    put_word(journal->bytes, 0, (uint32_t)INSTANT << 28 | status);
+    write_outputs(journal->bytes + inputs_len, output);
+    journal->bytes += len;
+    journal->left -= len;
+    return 1;
+}
+
+/* Runs a list in its form: the instants written, and whether the journal was full. */
+static uint64_t run_list(const struct engine *engine, const struct score *score, struct state *state,
+                         const uint8_t *inputs, size_t words, struct room journal)
+{
+    struct index index;
+    struct tokens input, output;
+    struct end end;
+    uint64_t written = 0;
+    size_t at = 0;
+    engine->prepare(score, &index);
+    while (at < words) {
+        struct state next = *state;
+        size_t behind = read_inputs(&input, inputs, words, at);
+        step(engine, score, &index, &next, &input, &end);
+        output_of(&output, score, &end.store);
+        if (!write_instant(&journal, inputs + 4 * at, 4 * (behind - at), end.status, &output))
+            return KEPT_FULL | written;
+        at = behind;
+        *state = next;
+        written++;
+    }
+    return written;
+}
+
+uint64_t call_run(const struct engine *engine, const uint8_t *score_bytes, size_t score_len, uint8_t *state_bytes,
+                  size_t state_len, const uint8_t *inputs, size_t inputs_len, uint8_t *journal, size_t journal_len,
+                  uint8_t *scratch, size_t scratch_len)
+{
+    uint64_t answer = baseline_check(score_bytes, score_len);
+    struct score score;
+    struct state state;
+    struct room room;
+    if (answer)
+        return answer;
+    if (state_len != STATE_LEN || scratch_len != SCRATCH_LEN)
+        return refusal(LENT_LENGTH);
+    take_apart(&score, score_bytes, score_len);
+    if (!read_state(&state, &score, state_bytes))
+        return refusal(LENT_STATE);
+    answer = kept_fault(inputs, inputs_len, QUIET, score.tokens);
+    if (answer)
+        return answer;
+    room.bytes = journal;
+    room.left = journal_len;
+    answer = run_list(engine, &score, &state, inputs, inputs_len / 4, room);
+    write_state(state_bytes, &state);
+    memset(scratch, 0, SCRATCH_LEN);
+    return answer;
+}
+
+/* The words from `at` on are these output tokens and no more; the word behind them, or 0 if they are not. */
+static size_t match_outputs(const uint8_t *bytes, size_t words, size_t at, const struct tokens *output)
+{
+    uint32_t i;
+    for (i = 0; i < TOKENS_MAX / 64; i++) {
+        uint64_t left = output->words[i];
+        for (; left; at++)
+            if (at == words || word_at(bytes, at) != ((uint32_t)OUTPUT << 28 | (64 * i + take_lowest(&left))))
+                return 0;
+    }
+    return at == words || kind_of(word_at(bytes, at)) == INSTANT ? at : 0;
+}
+
+static void start_state(struct state *state, const struct score *score)
+{
+    memset(state, 0, sizeof *state);
+    add_agent(&state->agents, root_of(score, 0));
+}
+
+/* Compares a journal in its form with the run: the instants that are alike, and whether one is not. */
+static uint64_t compare_journal(const struct engine *engine, const struct score *score, const uint8_t *journal,
+                                size_t words)
+{
+    struct index index;
+    struct state state;
+    struct tokens input, output;
+    struct end end;
+    uint64_t alike = 0;
+    size_t at = 0;
+    engine->prepare(score, &index);
+    start_state(&state, score);
+    while (at < words) {
+        uint32_t status = word_at(journal, at) & 3;
+        size_t outputs = read_inputs(&input, journal, words, at);
+        step(engine, score, &index, &state, &input, &end);
+        output_of(&output, score, &end.store);
+        at = match_outputs(journal, words, outputs, &output);
+        if (status != end.status || at == 0)
+            return KEPT_DIFFERS | alike;
+        alike++;
+    }
+    return alike;
+}
+
+uint64_t call_journal_check(const struct engine *engine, const uint8_t *score_bytes, size_t score_len,
+                            const uint8_t *journal, size_t journal_len, uint8_t *scratch, size_t scratch_len)
+{
+    uint64_t answer = baseline_check(score_bytes, score_len);
+    struct score score;
+    if (answer)
+        return answer;
+    if (scratch_len != SCRATCH_LEN)
+        return refusal(LENT_LENGTH);
+    take_apart(&score, score_bytes, score_len);
+    answer = kept_fault(journal, journal_len, ABORTED, score.tokens);
+    if (answer)
+        return answer;
+    answer = compare_journal(engine, &score, journal, journal_len / 4);
+    memset(scratch, 0, SCRATCH_LEN);
+    return answer;
+}

@@ -1,0 +1,234 @@
+/* engine_table.c: times the instant, the run and the journal check against two engines written by hand, on five scores.
+ *
+ * The library's columns stand for the functions that it has: LIBRARY_INSTANT, LIBRARY_RUN and LIBRARY_JOURNAL_CHECK
+ * say so.
+ */
+#define _POSIX_C_SOURCE 199309L
+
+#include <stdio.h>
+#include <string.h>
+
+#include "engines.h"
+#include "scores.h"
+#include "tables.h"
+#include "timing.h"
+
+enum { INSTANTS = 1000, STATE_LEN = 132, MAP_LEN = 32, SCRATCH_LEN = 2048, INSTANT_LEN_MAX = 4 * 513, REPETITIONS = 11 };
+
+static const double REPETITION_NS = 2e6;
+
+struct calls {
+    instant_call *instant;
+    run_call *run;
+    journal_check_call *journal_check;
+};
+
+static const struct calls passes = {passes_instant, passes_run, passes_journal_check};
+static const struct calls linear = {linear_instant, linear_run, linear_journal_check};
+
+#ifdef LIBRARY_INSTANT
+instant_call score_instant;
+#else
+#define score_instant NULL
+#endif
+#ifdef LIBRARY_RUN
+run_call score_run;
+#else
+#define score_run NULL
+#endif
+#ifdef LIBRARY_JOURNAL_CHECK
+journal_check_call score_journal_check;
+#else
+#define score_journal_check NULL
+#endif
+
+static const struct calls library = {score_instant, score_run, score_journal_check};
+
+static const struct calls *const engines[] = {&passes, &linear, &library};
+
+enum { ENGINES = sizeof engines / sizeof *engines };
+
+/* What is lent, and what it holds after a call. */
+struct lent {
+    struct score_bytes score;
+    uint8_t start[STATE_LEN], state[STATE_LEN], input[MAP_LEN], store[MAP_LEN], output[MAP_LEN], scratch[SCRATCH_LEN];
+    uint8_t inputs[INSTANTS * INSTANT_LEN_MAX], journal[INSTANTS * INSTANT_LEN_MAX];
+    size_t inputs_len, journal_len;
+};
+
+static uint64_t one_instant(const struct calls *calls, struct lent *lent)
+{
+    memcpy(lent->state, lent->start, STATE_LEN);
+    return calls->instant(lent->score.bytes, lent->score.len, lent->state, STATE_LEN, lent->input, MAP_LEN,
+                          lent->store, MAP_LEN, lent->output, MAP_LEN, lent->scratch, SCRATCH_LEN);
+}
+
+static uint64_t one_run(const struct calls *calls, struct lent *lent)
+{
+    memcpy(lent->state, lent->start, STATE_LEN);
+    return calls->run(lent->score.bytes, lent->score.len, lent->state, STATE_LEN, lent->inputs, lent->inputs_len,
+                      lent->journal, sizeof lent->journal, lent->scratch, SCRATCH_LEN);
+}
+
+static uint64_t one_journal_check(const struct calls *calls, struct lent *lent)
+{
+    return calls->journal_check(lent->score.bytes, lent->score.len, lent->journal, lent->journal_len, lent->scratch,
+                                SCRATCH_LEN);
+}
+
+/* A row of the table for one score. */
+struct row {
+    const char *name;
+    uint64_t (*call)(const struct calls *calls, struct lent *lent);
+    long instants;
+};
+
+static const struct row rows[] = {
+    {"instant", one_instant, 1},
+    {"run", one_run, INSTANTS},
+    {"journal check", one_journal_check, INSTANTS},
+};
+
+enum { ROWS = sizeof rows / sizeof *rows };
+
+static int has(const struct calls *calls, int row)
+{
+    return row == 0 ? calls->instant != NULL : row == 1 ? calls->run != NULL : calls->journal_check != NULL;
+}
+
+static void put_word(uint8_t *bytes, size_t *len, uint32_t word)
+{
+    int i;
+    for (i = 0; i < 4; i++)
+        bytes[(*len)++] = (uint8_t)(word >> 8 * i);
+}
+
+/* The start state: the root of procedure 0, the last agent, is awake. */
+static void write_start(struct lent *lent)
+{
+    uint32_t agents = (lent->score.bytes[1] | (lent->score.bytes[2] & 3u) << 8) + 1, root = agents - 1;
+    size_t len = 0;
+    memset(lent->start, 0, STATE_LEN);
+    put_word(lent->start, &len, 0xF0000000);
+    lent->start[4 + root / 8] |= (uint8_t)(1 << root % 8);
+}
+
+/* The same input at every instant. */
+static void write_inputs(struct lent *lent, const struct input_tokens *input)
+{
+    size_t i, instant;
+    memset(lent->input, 0, MAP_LEN);
+    for (i = 0; i < input->len; i++)
+        lent->input[input->tokens[i] / 8] |= (uint8_t)(1 << input->tokens[i] % 8);
+    lent->inputs_len = 0;
+    for (instant = 0; instant < INSTANTS; instant++) {
+        put_word(lent->inputs, &lent->inputs_len, 0xC0000000);
+        for (i = 0; i < input->len; i++)
+            put_word(lent->inputs, &lent->inputs_len, 0xD0000000 | input->tokens[i]);
+    }
+}
+
+/* The length of a journal of 1,000 instants that was all zero. */
+static size_t journal_len(const uint8_t *journal)
+{
+    size_t len = 0;
+    while (len < INSTANTS * INSTANT_LEN_MAX && journal[len + 3] != 0)
+        len += 4;
+    return len;
+}
+
+static void prepare(struct lent *lent, void (*build)(struct score_bytes *score, struct input_tokens *input))
+{
+    struct input_tokens input;
+    memset(lent, 0, sizeof *lent);
+    build(&lent->score, &input);
+    write_start(lent);
+    write_inputs(lent, &input);
+    one_run(&passes, lent);
+    lent->journal_len = journal_len(lent->journal);
+}
+
+/* Whether both accept a call on buffers that hold the same, answer it alike and leave the buffers alike. */
+static int agree(const struct row *row, const struct calls *one, const struct calls *other, struct lent *lent)
+{
+    static struct lent copy;
+    uint64_t answer;
+    memset(lent->scratch, 0xA5, SCRATCH_LEN);
+    copy = *lent;
+    answer = row->call(one, lent);
+    return score_answer_number(answer) == SCORE_ACCEPTED && row->call(other, &copy) == answer
+        && memcmp(&copy, lent, sizeof copy) == 0;
+}
+
+/* Nanoseconds an instant, over so many calls. */
+static double time_calls(const struct row *row, const struct calls *calls, struct lent *lent, long times)
+{
+    double start = now_ns();
+    long i;
+    for (i = 0; i < times; i++)
+        row->call(calls, lent);
+    return (now_ns() - start) / ((double)times * (double)row->instants);
+}
+
+static long calls_in_a_repetition(const struct row *row, const struct calls *calls, struct lent *lent)
+{
+    return 1 + (long)(REPETITION_NS / (1 + time_calls(row, calls, lent, 1) * (double)row->instants));
+}
+
+/* The engines are timed in turn, so that a busy machine slows all of them. */
+static void time_in_turn(const struct row *row, struct lent *lent, double ns[ENGINES], int engines_timed)
+{
+    long times[ENGINES];
+    int repetition, i;
+    for (i = 0; i < engines_timed; i++) {
+        times[i] = calls_in_a_repetition(row, engines[i], lent);
+        ns[i] = 1e18;
+    }
+    for (repetition = 0; repetition < REPETITIONS; repetition++)
+        for (i = 0; i < engines_timed; i++)
+            ns[i] = least(ns[i], time_calls(row, engines[i], lent, times[i]));
+}
+
+/* Prints a row; 0 if the engines differ. */
+static int print_row(const char *name, int number, struct lent *lent)
+{
+    const struct row *row = &rows[number];
+    int has_library = has(&library, number);
+    double ns[ENGINES];
+    if (!agree(row, &passes, &linear, lent) || (has_library && !agree(row, &passes, &library, lent))) {
+        fprintf(stderr, "bench: %s, %s: the engines refuse it or differ\n", name, row->name);
+        return 0;
+    }
+    time_in_turn(row, lent, ns, has_library ? ENGINES : ENGINES - 1);
+    printf("%-20s %-14s %10.1f %10.1f", name, row->name, ns[0], ns[1]);
+    if (has_library)
+        printf(" %10.1f %8.2f %8.2f\n", ns[2], ns[2] / ns[0], ns[2] / ns[1]);
+    else
+        printf(" %10s %8s %8s\n", "-", "-", "-");
+    return 1;
+}
+
+int print_engine_table(void)
+{
+    static const struct {
+        const char *name;
+        void (*build)(struct score_bytes *score, struct input_tokens *input);
+    } scores[] = {
+        {"60 agents", build_12_winches},
+        {"200, 40 winches", build_40_winches},
+        {"1,000 whens", build_when_chain},
+        {"256 rules", build_rule_chain},
+        {"deep sharing", build_deep_sharing},
+    };
+    static struct lent lent;
+    size_t i;
+    int row, equal = 1;
+    printf("%-20s %-14s %10s %10s %10s %8s %8s\n", "ns an instant", "call", "C passes", "C linear", "library",
+           "/passes", "/linear");
+    for (i = 0; i < sizeof scores / sizeof *scores; i++) {
+        prepare(&lent, scores[i].build);
+        for (row = 0; row < ROWS; row++)
+            equal &= print_row(scores[i].name, row, &lent);
+    }
+    return equal;
+}

@@ -1,0 +1,141 @@
+/* passes.c: an engine that passes over all agents and all rules until nothing is added. */
+#include "calls.h"
+
+#include <string.h>
+
+struct flags {
+    uint8_t awake[AGENTS_MAX], reduced[AGENTS_MAX], store[TOKENS_MAX];
+};
+
+static void prepare(const struct score *score, struct index *index)
+{
+    (void)score;
+    (void)index;
+}
+
+/* Whether the agent, awake and not yet reduced, can be reduced now. */
+static int can_reduce(const struct flags *flags, uint32_t word)
+{
+    switch (kind_of(word)) {
+    case NEXT: return 0;
+    case WHEN:
+    case UNLESS: return flags->store[awaited_by(word)];
+    default: return 1;
+    }
+}
+
+static void reduce(const struct score *score, struct flags *flags, uint32_t word)
+{
+    switch (kind_of(word)) {
+    case TELL: flags->store[token_of(word)] = 1; break;
+    case PARALLEL: flags->awake[other_half_of(word)] = 1; /* fall through */
+    case WHEN: flags->awake[body_of(word)] = 1; break;
+    case CALL: flags->awake[root_of(score, word)] = 1; break;
+    default: break;
+    }
+}
+
+static int is_abort(uint32_t word)
+{
+    return kind_of(word) == SKIP_ABORT && word & 1;
+}
+
+/* A pass over the agents, from the last, since bodies are lower: ABORTED at an abort, else whether one was reduced. */
+static int pass_agents(const struct score *score, struct flags *flags, uint32_t *count)
+{
+    uint32_t agent = score->agents, before = *count;
+    while (agent-- > 0) {
+        uint32_t word = word_at(score->agent_words, agent);
+        if (!flags->awake[agent] || flags->reduced[agent] || !can_reduce(flags, word))
+            continue;
+        if (is_abort(word))
+            return ABORTED;
+        flags->reduced[agent] = 1;
+        ++*count;
+        reduce(score, flags, word);
+    }
+    return *count > before;
+}
+
+/* A pass over the rules: whether a token was added. */
+static int pass_rules(const struct score *score, struct flags *flags)
+{
+    uint32_t rule;
+    int added = 0;
+    for (rule = 0; rule < score->rules; rule++) {
+        uint32_t word = word_at(score->rule_words, rule);
+        uint8_t *conclusion = &flags->store[token_of(word)];
+        if (!*conclusion && flags->store[premise_of(word)] && flags->store[other_premise_of(word)])
+            *conclusion = 1, added = 1;
+    }
+    return added;
+}
+
+static void read_flags(struct flags *flags, const struct score *score, const struct agents *awake,
+                       const struct tokens *input)
+{
+    uint32_t i;
+    memset(flags, 0, sizeof *flags);
+    for (i = 0; i < score->agents; i++)
+        flags->awake[i] = (uint8_t)has_agent(awake, i);
+    for (i = 0; i < score->tokens; i++)
+        flags->store[i] = (uint8_t)has_token(input, i);
+}
+
+static void write_end(struct end *end, const struct score *score, const struct flags *flags)
+{
+    uint32_t i;
+    for (i = 0; i < score->tokens; i++)
+        if (flags->store[i])
+            add_token(&end->store, i);
+    for (i = 0; i < score->agents; i++) {
+        uint32_t word = word_at(score->agent_words, i);
+        if (flags->awake[i] && !flags->reduced[i] && (kind_of(word) == NEXT || kind_of(word) == UNLESS))
+            add_agent(&end->awake, body_of(word));
+    }
+    end->status = flags->store[0] ? CLASHED : QUIET;
+}
+
+static void instant(const struct score *score, const struct index *index, const struct agents *awake,
+                    const struct tokens *input, struct end *end)
+{
+    struct flags flags;
+    int changed;
+    (void)index;
+    read_flags(&flags, score, awake, input);
+    memset(end, 0, sizeof *end);
+    do {
+        changed = pass_rules(score, &flags);
+        if (flags.store[0])
+            memset(flags.store, 1, score->tokens);
+        changed |= pass_agents(score, &flags, &end->count);
+        if (changed & ABORTED) {
+            end->status = ABORTED;
+            return;
+        }
+    } while (changed);
+    write_end(end, score, &flags);
+}
+
+static const struct engine engine = {prepare, instant};
+
+uint64_t passes_instant(const uint8_t *score, size_t score_len, uint8_t *state, size_t state_len,
+                        const uint8_t *input, size_t input_len, uint8_t *store, size_t store_len, uint8_t *output,
+                        size_t output_len, uint8_t *scratch, size_t scratch_len)
+{
+    return call_instant(&engine, score, score_len, state, state_len, input, input_len, store, store_len, output,
+                        output_len, scratch, scratch_len);
+}
+
+uint64_t passes_run(const uint8_t *score, size_t score_len, uint8_t *state, size_t state_len, const uint8_t *inputs,
+                    size_t inputs_len, uint8_t *journal, size_t journal_len, uint8_t *scratch, size_t scratch_len)
+{
+    return call_run(&engine, score, score_len, state, state_len, inputs, inputs_len, journal, journal_len, scratch,
+                    scratch_len);
+}
+
+uint64_t passes_journal_check(const uint8_t *score, size_t score_len, const uint8_t *journal, size_t journal_len,
+                              uint8_t *scratch, size_t scratch_len)
+{
+    return call_journal_check(&engine, score, score_len, journal, journal_len, scratch, scratch_len);
+}

@@ -1,0 +1,282 @@
+//! The document's own instants, and one for each reading that would spoil a score.
+
+use crate::library;
+use second::answer::{refused, Answer};
+use second::calls::{instant_call, InstantLent};
+use second::decoded::Decoded;
+use second::generate::Score;
+use second::guarded::GUARDS;
+use second::lent::*;
+use second::random::Random;
+use second::sample::{replaced, S};
+use second::tests::{case, ensure, same_call, Case, Met, Outcome};
+use second::weight::Weights;
+use second::words::*;
+
+pub fn all() -> Vec<Case> {
+    [sample(), refusals(), small(), readings(), sharing()].into_iter().flatten().collect()
+}
+
+/// What one instant must bring about.
+struct Wanted {
+    status: u32,
+    count: u32,
+    store: Vec<usize>,
+    awake: Vec<usize>,
+}
+
+fn quiet(count: u32, store: &[usize], awake: &[usize]) -> Wanted {
+    Wanted { status: u32::from(store.contains(&0)), count, store: store.to_vec(), awake: awake.to_vec() }
+}
+
+fn aborted() -> Wanted {
+    Wanted { status: 2, count: 0, store: vec![], awake: vec![] }
+}
+
+fn lent(score: &[u32], state: Vec<u8>, inputs: &[usize]) -> InstantLent {
+    InstantLent {
+        score: to_bytes(score),
+        state,
+        input: map_bytes(inputs),
+        store: vec![0xA5; MAP_BYTES],
+        output: vec![0x5A; MAP_BYTES],
+        scratch: vec![0xC3; SCRATCH_BYTES],
+    }
+}
+
+/// The buffers after an instant that brings about what is wanted.
+fn after(lent: &InstantLent, wanted: &Wanted) -> InstantLent {
+    let ports = Decoded::new(&lent.score).ports;
+    let output: Vec<usize> = wanted.store.iter().copied().filter(|token| ports.contains(token)).collect();
+    let word_0 = if wanted.status == 2 { ABORTED } else { RUNNING };
+    InstantLent {
+        score: lent.score.clone(),
+        state: state_bytes(word_0, wanted.awake.iter().copied()),
+        input: lent.input.clone(),
+        store: map_bytes(&wanted.store),
+        output: map_bytes(&output),
+        scratch: vec![0; SCRATCH_BYTES],
+    }
+}
+
+/// Holds both engines to what is expected, at every offset.
+fn both(met: &mut Met, lent: &InstantLent, expected: (Answer, InstantLent)) -> Outcome {
+    let (answer, buffers) = instant_call(lent, &mut Random::new(0, 0));
+    same_call(&expected, &(answer.packed(), buffers)).map_err(|difference| format!("second engine: {difference}"))?;
+    for offset in 0..8 {
+        for guard in GUARDS {
+            let got = library::instant(lent, offset, guard)?;
+            met.count("instant", got.0);
+            same_call(&expected, &got)?;
+        }
+    }
+    Ok(())
+}
+
+/// Instants one after the other on one state: the inputs of each, and what it must bring about.
+fn in_turn(met: &mut Met, score: &[u32], awake: &[usize], instants: &[(&[usize], Wanted)]) -> Outcome {
+    let mut state = state_bytes(RUNNING, awake.iter().copied());
+    for (inputs, wanted) in instants {
+        let lent = lent(score, state, inputs);
+        let after = after(&lent, wanted);
+        state = after.state.clone();
+        both(met, &lent, (Answer::Instant { status: wanted.status, count: wanted.count }, after))?;
+    }
+    Ok(())
+}
+
+fn turned_down(met: &mut Met, lent: InstantLent, number: u32, value: u64) -> Outcome {
+    both(met, &lent, (refused(number, value), lent.clone()))
+}
+
+fn s_aborting() -> Vec<u32> {
+    replaced(&S, &[(2, 0x4000_0001)])
+}
+
+fn weights(score: &[u32], wanted: &[u64]) -> Outcome {
+    let score = Decoded::new(&to_bytes(score));
+    let mut weights = Weights::new(&score);
+    let got: Vec<u64> = (0..score.agents.len()).map(|agent| weights.of(agent)).collect();
+    ensure(got == wanted, &format!("second engine: {got:?}"))
+}
+
+fn sample() -> Vec<Case> {
+    vec![
+        case("S: counts 3, 2, 4, awake agent 2", |met| {
+            let instants: [(&[usize], Wanted); 3] =
+                [(&[1], quiet(3, &[1, 2], &[2])), (&[], quiet(2, &[], &[2])), (&[1, 3], quiet(4, &[0, 1, 2, 3], &[2]))];
+            in_turn(met, &S, &[4], &instants)
+        }),
+        case("S: weights", |_| weights(&S, &[1, 2, 4, 0, 3])),
+        case("S with an abort, input {1}: aborted, and the next instant too", |met| {
+            in_turn(met, &s_aborting(), &[4], &[(&[1], aborted()), (&[], aborted()), (&[1, 3], aborted())])
+        }),
+        case("S with an abort, input {0}: aborted", |met| in_turn(met, &s_aborting(), &[4], &[(&[0], aborted())])),
+        case("S with an abort, input {}: quiet", |met| {
+            in_turn(met, &s_aborting(), &[4], &[(&[], quiet(1, &[], &[2]))])
+        }),
+        case("S, nobody awake: input alone is closed", |met| {
+            in_turn(met, &S, &[], &[(&[2, 3], quiet(0, &[0, 1, 2, 3], &[])), (&[], quiet(0, &[], &[]))])
+        }),
+    ]
+}
+
+fn refusals() -> Vec<Case> {
+    let running = || state_bytes(RUNNING, [4]);
+    let with = |words: &[(usize, u32)]| replaced(&S, words);
+    let score = |name, words: Vec<u32>, number, value| {
+        case(name, move |met| turned_down(met, lent(&words, running(), &[]), number, value))
+    };
+    let state = |name, state: Vec<u8>, inputs: &'static [usize], number| {
+        case(name, move |met| turned_down(met, lent(&S, state.clone(), inputs), number, 0))
+    };
+    vec![
+        score("no score: 1", vec![], 1, 0),
+        score("a wrong head: 2", with(&[(0, 0)]), 2, 0),
+        score("S without its procedure: 3", S[..7].to_vec(), 3, 0),
+        score("S with a rule for an agent: 4", with(&[(2, S[8])]), 4, 2),
+        score("S with rule 0x20040200: 5", with(&[(8, 0x2004_0200)]), 5, 8),
+        score("S with root 5: 6", with(&[(7, 0x3000_0005)]), 6, 7),
+        score("S with agent 3 as 0x60000801: 7", with(&[(5, 0x6000_0801)]), 7, 0),
+        state("S, state with agent 5: 9", state_bytes(RUNNING, [5]), &[], 9),
+        state("S, state with agent 1,023: 9", state_bytes(RUNNING, [4, 1023]), &[], 9),
+        state("S, aborted with an agent: 9", state_bytes(ABORTED, [4]), &[], 9),
+        state("S, state word 0xF0000002: 9", state_bytes(0xF000_0002, []), &[], 9),
+        state("S, state word 0: 9", state_bytes(0, []), &[], 9),
+        state("S, state with agent 5, input token 4: 9", state_bytes(RUNNING, [5]), &[4], 9),
+        state("S, input token 4: 10", state_bytes(RUNNING, [4]), &[4], 10),
+        state("S, input token 255: 10", state_bytes(RUNNING, [4]), &[255], 10),
+        state("S, aborted, input token 4: 10", state_bytes(ABORTED, []), &[4], 10),
+        case("S, each buffer one byte short or long: 8", |met| {
+            let one_off = |length: usize| [length - 1, length + 1, 0];
+            (0..5).try_for_each(|which| (0..3).try_for_each(|off| other_length(met, which, |len| one_off(len)[off])))
+        }),
+    ]
+}
+
+/// One buffer has another length, and what it holds is wrong besides: still 8.
+fn other_length(met: &mut Met, which: usize, length: impl Fn(usize) -> usize) -> Outcome {
+    let mut lent = lent(&S, state_bytes(RUNNING, [5]), &[4]);
+    let buffers = [&mut lent.state, &mut lent.input, &mut lent.store, &mut lent.output, &mut lent.scratch];
+    let length = length(buffers[which].len());
+    buffers[which].resize(length, 0);
+    turned_down(met, lent, 8, 0)
+}
+
+/// A score of one procedure, whose root is the last agent, with all tokens at the ports.
+fn score(tokens: u32, agents: &[u32], rules: &[u32]) -> Vec<u32> {
+    let score = Score {
+        tokens,
+        ports: ports(0, tokens - 1),
+        agents: agents.to_vec(),
+        procedures: vec![procedure(agents.len() as u32 - 1)],
+        rules: rules.to_vec(),
+    };
+    score.words()
+}
+
+fn small() -> Vec<Case> {
+    let unless_1 = || score(2, &[tell(1), unless(0, 1)], &[]);
+    vec![
+        case("unless 1, input {}: count 0, awake {0}", move |met| {
+            in_turn(met, &unless_1(), &[1], &[(&[], quiet(0, &[], &[0])), (&[], quiet(1, &[1], &[]))])
+        }),
+        case("unless 1, input {1}: count 1, none awake", move |met| {
+            in_turn(met, &unless_1(), &[1], &[(&[1], quiet(1, &[1], &[])), (&[], quiet(0, &[], &[]))])
+        }),
+        case("parallel of a tell with itself: weight 3", |_| {
+            weights(&score(2, &[tell(1), parallel(0, 0)], &[]), &[1, 3])
+        }),
+        case("parallel of a tell with itself: count 2", |met| {
+            let score = score(2, &[tell(1), parallel(0, 0)], &[]);
+            in_turn(met, &score, &[1], &[(&[], quiet(2, &[1], &[]))])
+        }),
+        case("a next is not reduced and a skip is", |met| {
+            let score = score(1, &[skip(), next(0), parallel(0, 1)], &[]);
+            in_turn(met, &score, &[2], &[(&[], quiet(2, &[], &[0])), (&[], quiet(1, &[], &[]))])
+        }),
+        case("a tell counts though the input told the same", |met| {
+            in_turn(met, &score(2, &[tell(1)], &[]), &[0], &[(&[1], quiet(1, &[1], &[]))])
+        }),
+        case("an abort beside a clash is still an abort", |met| {
+            let score = score(2, &[tell(0), abort(), when(1, 1), parallel(0, 2)], &[]);
+            in_turn(met, &score, &[3], &[(&[], aborted())])
+        }),
+        case("an abort under a when that is not answered", |met| {
+            let score = score(2, &[abort(), when(0, 1)], &[]);
+            in_turn(met, &score, &[1], &[(&[], quiet(0, &[], &[]))])
+        }),
+        case("a clash answers every when and unless", |met| {
+            let score = score(4, &[tell(0), next(0), when(1, 3), unless(0, 2), parallel(2, 3)], &[]);
+            in_turn(met, &score, &[4], &[(&[0], quiet(3, &[0, 1, 2, 3], &[0]))])
+        }),
+        case("outputs are cut to the ports and the store is not", |met| {
+            let mut words = score(4, &[tell(0)], &[]);
+            words[1] = ports(2, 2);
+            in_turn(met, &words, &[0], &[(&[], quiet(1, &[0, 1, 2, 3], &[]))])
+        }),
+        case("the clash of 256 tokens", |met| {
+            let all: Vec<usize> = (0..256).collect();
+            in_turn(met, &score(256, &[tell(0)], &[]), &[0], &[(&[], quiet(1, &all, &[]))])
+        }),
+    ]
+}
+
+fn readings() -> Vec<Case> {
+    vec![
+        case("an unless is judged when all is quiet, whichever half it is", |met| {
+            let agents = [tell(1), tell(2), when(1, 1), unless(0, 2), parallel(0, 2)];
+            [parallel(3, 4), parallel(4, 3)].into_iter().try_for_each(|root| {
+                let score = score(3, &[&agents[..], &[root]].concat(), &[]);
+                in_turn(met, &score, &[5], &[(&[], quiet(6, &[1, 2], &[]))])
+            })
+        }),
+        case("an unless waits for what the rules add", |met| {
+            let score = score(4, &[tell(1), unless(0, 3), parallel(0, 1)], &[rule(3, 2, 2), rule(2, 1, 1)]);
+            in_turn(met, &score, &[2], &[(&[], quiet(3, &[1, 2, 3], &[]))])
+        }),
+        case("rules are passed over until nothing is added", |met| {
+            let score = score(5, &[tell(1)], &[rule(4, 3, 3), rule(3, 2, 1), rule(2, 1, 1)]);
+            in_turn(met, &score, &[0], &[(&[], quiet(1, &[1, 2, 3, 4], &[]))])
+        }),
+        case("a rule needs both premises", |met| {
+            let score = score(4, &[tell(1)], &[rule(3, 1, 2), rule(3, 2, 1)]);
+            in_turn(met, &score, &[0], &[(&[], quiet(1, &[1], &[])), (&[2], quiet(0, &[2], &[]))])
+        }),
+        case("neither an unanswered when nor the store is kept", |met| {
+            let score = score(3, &[tell(2), when(0, 1)], &[]);
+            in_turn(met, &score, &[1], &[(&[], quiet(0, &[], &[])), (&[1], quiet(0, &[1], &[]))])
+        }),
+        case("a call under a when is unguarded", |met| {
+            turned_down(met, lent(&score(2, &[call(0), when(0, 1)], &[]), state_bytes(RUNNING, [1]), &[]), 7, 0)
+        }),
+        case("a call becomes the root and both count", |met| {
+            let score = Score {
+                tokens: 2,
+                ports: ports(1, 1),
+                agents: vec![tell(1), call(1)],
+                procedures: vec![procedure(1), procedure(0)],
+                rules: vec![],
+            };
+            in_turn(met, &score.words(), &[1], &[(&[], quiet(2, &[1], &[]))])
+        }),
+    ]
+}
+
+/// Agents 1 to 1,023 are parallels of the one before with itself.
+fn ladder() -> Vec<u32> {
+    let steps = (0..1023).map(|below| parallel(below, below));
+    score(2, &[tell(1)].into_iter().chain(steps).collect::<Vec<_>>(), &[])
+}
+
+fn sharing() -> Vec<Case> {
+    vec![
+        case("copies of one agent are counted once: 2^1,023 of them", |met| {
+            in_turn(met, &ladder(), &[1023], &[(&[], quiet(1024, &[1], &[]))])
+        }),
+        case("every agent awake at once", |met| {
+            let all: Vec<usize> = (0..1024).collect();
+            in_turn(met, &ladder(), &all, &[(&[], quiet(1024, &[1], &[]))])
+        }),
+    ]
+}

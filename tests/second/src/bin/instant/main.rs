@@ -1,0 +1,40 @@
+//! Holds the library's score_instant to the second engine: every answer, and every byte of every buffer.
+
+mod cases;
+mod library;
+mod overlap;
+mod trials;
+
+use second::tests::{self, Category, Tests, Trial};
+use std::process::ExitCode;
+
+const CATEGORIES: &[Category<Trial>] = &[
+    ("any scores", 60_000, trials::any_scores),
+    ("large scores", 1_500, trials::large_scores),
+    ("special scores", 6_000, trials::special_scores),
+    ("full scores", 600, trials::full_scores),
+    ("every state and input of every kind", 1 << 16, trials::every_kind),
+    ("every state and input of very small scores", 200, trials::every_state_and_input),
+    ("sequences of instants", 10_000, trials::sequences),
+    ("every order of tiny scores", 8_000, trials::every_order),
+    ("orders with and without copies", 10_000, trials::with_and_without_copies),
+    ("aborted states", 4_000, trials::aborted_states),
+    ("the input map is a part of the score", 3_000, trials::input_on_score),
+    ("buffers of other lengths", 10_000, trials::other_lengths),
+    ("unlawful states", 10_000, trials::unlawful_states),
+    ("unlawful inputs", 8_000, trials::unlawful_inputs),
+    ("damaged scores", 15_000, trials::damaged_scores),
+    ("scores of the score check", 12_000, trials::checked_scores),
+    ("several faults", 10_000, trials::several_faults),
+];
+
+fn test(tests: &mut Tests) {
+    tests.cases(cases::all());
+    tests.categories(CATEGORIES, |trial, met, random, index| trial(met, random, index));
+    tests.require_numbers("instant", 0..=10);
+    tests.require_statuses();
+}
+
+fn main() -> ExitCode {
+    tests::run(test)
+}

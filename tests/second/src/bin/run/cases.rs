@@ -1,0 +1,219 @@
+//! The document's own runs and journals, and one case for each sentence that is easily read wrong.
+
+use crate::judge::{self, known};
+use crate::library;
+use second::answer::{refused, same, Answer};
+use second::calls::{JournalCheckLent, RunLent};
+use second::guarded::GUARDS;
+use second::lent::*;
+use second::random::Random;
+use second::sample::{replaced, S};
+use second::tests::{case, ensure, Case, Met, Outcome};
+use second::words::*;
+
+pub fn all() -> Vec<Case> {
+    [sample(), lists(), aborted(), journals(), large_values()].into_iter().flatten().collect()
+}
+
+const INPUTS: [&[usize]; 3] = [&[1], &[], &[1, 3]];
+
+const JOURNAL: [u32; 9] = [
+    0xC000_0000,
+    0xD000_0001,
+    0xE000_0002,
+    0xC000_0000,
+    0xC000_0001,
+    0xD000_0001,
+    0xD000_0003,
+    0xE000_0002,
+    0xE000_0003,
+];
+
+fn inputs() -> Vec<u32> {
+    let list: Vec<Vec<usize>> = INPUTS.iter().map(|inputs| inputs.to_vec()).collect();
+    second::oracle::words(&list_bytes(&list))
+}
+
+const OLD: u8 = 0xA5;
+
+fn lent(score: &[u32], state: Vec<u8>, inputs: &[u32], room: usize) -> RunLent {
+    RunLent {
+        score: to_bytes(score),
+        state,
+        inputs: to_bytes(inputs),
+        journal: vec![OLD; room],
+        scratch: vec![OLD; SCRATCH_BYTES],
+    }
+}
+
+fn start() -> Vec<u8> {
+    state_bytes(RUNNING, [4])
+}
+
+/// Eight times, at random offsets; then the answer and the buffers written are held to what is wanted.
+fn run(met: &mut Met, lent: &RunLent, wanted: Answer, journal: &[u32], state: &[u8]) -> Outcome {
+    let mut expected = to_bytes(journal);
+    expected.resize(lent.journal.len(), OLD);
+    for index in 0..8 {
+        let (answer, after) = judge::run(met, &mut Random::new(0, index), lent)?;
+        known(answer, answer == wanted)?;
+        ensure(after.journal == expected && after.state == state, "both engines leave another journal or state")?;
+    }
+    Ok(())
+}
+
+fn sample_run(met: &mut Met, room: usize, wanted: Answer, words: usize, state: Vec<u8>) -> Outcome {
+    run(met, &lent(&S, start(), &inputs(), room), wanted, &JOURNAL[..words], &state)
+}
+
+fn sample() -> Vec<Case> {
+    let awake_2 = || state_bytes(RUNNING, [2]);
+    vec![
+        case("S: the whole journal", move |met| sample_run(met, 65_536, Answer::Accepted(3), 9, awake_2())),
+        case("S, 36 journal bytes: all three", move |met| sample_run(met, 36, Answer::Accepted(3), 9, awake_2())),
+        case("S, 35 journal bytes: 15, two", move |met| sample_run(met, 35, refused(15, 2), 4, awake_2())),
+        case("S, 16 journal bytes: 15, two", move |met| sample_run(met, 16, refused(15, 2), 4, awake_2())),
+        case("S, 15 journal bytes: 15, one", move |met| sample_run(met, 15, refused(15, 1), 3, awake_2())),
+        case("S, 12 journal bytes: 15, one", move |met| sample_run(met, 12, refused(15, 1), 3, awake_2())),
+        case("S, 11 journal bytes: 15, none", |met| sample_run(met, 11, refused(15, 0), 0, start())),
+        case("S, no journal bytes: 15, none", |met| sample_run(met, 0, refused(15, 0), 0, start())),
+    ]
+}
+
+/// A list that is turned down with 13 at a word.
+fn against_form(name: &'static str, list: &'static [u32], word: u64) -> Case {
+    case(name, move |met| run(met, &lent(&S, start(), list, 64), refused(13, word), &[], &start()))
+}
+
+fn lists() -> Vec<Case> {
+    vec![
+        case("no bytes: a list of no instants, and the scratch is zero", |met| {
+            run(met, &lent(&S, start(), &[], 0), Answer::Accepted(0), &[], &start())
+        }),
+        case("a list of 5 bytes: 12", |met| {
+            let mut lent = lent(&S, start(), &[0xC000_0000], 64);
+            lent.inputs.push(0);
+            run(met, &lent, refused(12, 0), &[], &start())
+        }),
+        case("a wrong state before a list of 5 bytes: 9", |met| {
+            let mut lent = lent(&S, state_bytes(RUNNING, [5]), &[0xC000_0000], 64);
+            lent.inputs.push(0);
+            run(met, &lent, refused(9, 0), &[], &lent.state)
+        }),
+        against_form("an input before the first instant: 13", &[0xD000_0001], 0),
+        against_form("a status in a list: 13", &[0xC000_0000, 0xC000_0001], 1),
+        against_form("an output in a list: 13", &[0xC000_0000, 0xE000_0001], 1),
+        against_form("a token twice: 13 at the later", &[0xC000_0000, 0xD000_0001, 0xD000_0001], 2),
+        against_form("tokens that fall: 13 at the later", &[0xC000_0000, 0xD000_0003, 0xD000_0001], 2),
+        against_form("token T: 13", &[0xC000_0000, 0xD000_0004], 1),
+        against_form("an unnamed bit: 13", &[0xC000_0000, 0xD000_0101], 1),
+        against_form("another kind: 13", &[0xC000_0000, 0x1000_0000], 1),
+        case("tokens begin anew with each instant", |met| {
+            let list = [0xC000_0000, 0xD000_0003, 0xC000_0000, 0xD000_0001];
+            let journal = [0xC000_0000, 0xD000_0003, 0xE000_0003, 0xC000_0000, 0xD000_0001, 0xE000_0002];
+            run(met, &lent(&S, start(), &list, 64), Answer::Accepted(2), &journal, &state_bytes(RUNNING, [2]))
+        }),
+    ]
+}
+
+fn aborted() -> Vec<Case> {
+    let aborted = || State::Aborted.bytes();
+    let s_aborting = || replaced(&S, &[(2, 0x4000_0001)]);
+    vec![
+        case("S with an abort: inputs are written on, outputs are not", move |met| {
+            let list = [0xC000_0000, 0xC000_0000, 0xD000_0001, 0xC000_0000, 0xD000_0003];
+            let journal = [0xC000_0000, 0xC000_0002, 0xD000_0001, 0xC000_0002, 0xD000_0003];
+            run(met, &lent(&s_aborting(), start(), &list, 64), Answer::Accepted(3), &journal, &aborted())
+        }),
+        case("an aborted state, a wrong list: 13", move |met| {
+            run(met, &lent(&S, aborted(), &[0xC000_0000, 0xD000_0004], 64), refused(13, 1), &[], &aborted())
+        }),
+        case("an aborted state, no room: 15", move |met| {
+            run(met, &lent(&S, aborted(), &[0xC000_0000], 3), refused(15, 0), &[], &aborted())
+        }),
+    ]
+}
+
+fn check(met: &mut Met, score: &[u32], journal: Vec<u8>, wanted: Answer) -> Outcome {
+    let lent = JournalCheckLent { score: to_bytes(score), journal, scratch: vec![OLD; SCRATCH_BYTES] };
+    for index in 0..8 {
+        let answer = judge::journal_check(met, &mut Random::new(0, index), &lent)?;
+        known(answer, answer == wanted)?;
+    }
+    Ok(())
+}
+
+/// S's journal with a word replaced.
+fn with(name: &'static str, at: usize, word: u32, wanted: Answer) -> Case {
+    case(name, move |met| check(met, &S, to_bytes(&replaced(&JOURNAL, &[(at, word)])), wanted))
+}
+
+fn only(name: &'static str, words: &'static [u32], wanted: Answer) -> Case {
+    case(name, move |met| check(met, &S, to_bytes(words), wanted))
+}
+
+fn journals() -> Vec<Case> {
+    vec![
+        only("no bytes: a journal of no instants", &[], Answer::Accepted(0)),
+        only("S's journal", &JOURNAL, Answer::Accepted(3)),
+        case("S's journal but its last byte: 12", |met| {
+            check(met, &S, to_bytes(&JOURNAL)[..35].to_vec(), refused(12, 0))
+        }),
+        case("S's journal but its last word: 14, instant 2", |met| {
+            check(met, &S, to_bytes(&JOURNAL[..8]), refused(14, 2))
+        }),
+        with("S's journal, status 1 for 0: 14, instant 1", 3, 0xC000_0001, refused(14, 1)),
+        with("S's journal, status 3: 13", 4, 0xC000_0003, refused(13, 4)),
+        with("S's journal, an output outside the ports: 14", 2, 0xE000_0001, refused(14, 0)),
+        with("S's journal, an output T: 13", 8, 0xE000_0004, refused(13, 8)),
+        with("S's journal, an input after an output: 13", 8, 0xD000_0003, refused(13, 8)),
+        with("S's journal, another input with other outputs: 14", 1, 0xD000_0003, refused(14, 0)),
+        only("13 in the last instant before 14 in the first", &[0xC000_0002, 0xC000_0003], refused(13, 1)),
+        only("an output under status 2: 14", &[0xC000_0002, 0xE000_0002], refused(14, 0)),
+        only("an output first: 13", &[0xE000_0002], refused(13, 0)),
+    ]
+}
+
+/// More instants than 16 bits count.
+const MANY: usize = 70_000;
+
+/// More words than 24 bits count.
+const VERY_MANY: usize = (1 << 24) + 2;
+
+/// A list, and the journal of no outputs, of so many instants without inputs.
+fn empty_instants(count: usize) -> Vec<u32> {
+    vec![instant_word(0); count]
+}
+
+fn large_values() -> Vec<Case> {
+    let awake_2 = || state_bytes(RUNNING, [2]);
+    let last = |count: usize, word: u32| replaced(&empty_instants(count), &[(count - 1, word)]);
+    vec![
+        case("70,000 instants", move |met| {
+            let list = empty_instants(MANY);
+            let lent = lent(&S, start(), &list, 4 * MANY);
+            run(met, &lent, Answer::Accepted(MANY as u64), &list, &awake_2())
+        }),
+        case("room for one less than 70,000 instants: 15", move |met| {
+            let list = empty_instants(MANY);
+            let lent = lent(&S, start(), &list, 4 * MANY - 1);
+            run(met, &lent, refused(15, MANY as u64 - 1), &list[1..], &awake_2())
+        }),
+        case("a difference in the last of 70,000 instants: 14", move |met| {
+            check(met, &S, to_bytes(&last(MANY, instant_word(1))), refused(14, MANY as u64 - 1))
+        }),
+        case("a list's fault at word 2^24 + 1: 13", move |met| {
+            let lent = lent(&S, start(), &last(VERY_MANY, 0), 0);
+            let (answer, _) = library::run(&lent, 0, GUARDS[0])?;
+            met.count("run", answer);
+            same(answer, refused(13, VERY_MANY as u64 - 1))
+        }),
+        case("a journal's fault at word 2^24 + 1: 13", move |met| {
+            let journal = to_bytes(&last(VERY_MANY, instant_word(3)));
+            let lent = JournalCheckLent { score: to_bytes(&S), journal, scratch: vec![OLD; SCRATCH_BYTES] };
+            let (answer, _) = library::journal_check(&lent, 0, GUARDS[0])?;
+            met.count("journal check", answer);
+            same(answer, refused(13, VERY_MANY as u64 - 1))
+        }),
+    ]
+}

@@ -1,0 +1,57 @@
+//! Holds the library's score_run and score_journal_check to the second engine: every answer, and every byte of every
+//! buffer.
+
+mod calls_in_turn;
+mod cases;
+#[path = "../instant/library.rs"]
+mod instant;
+mod journals;
+mod judge;
+mod library;
+mod runs;
+mod short;
+
+use second::tests::{self, Category, Tests, Trial};
+use std::process::ExitCode;
+
+const CATEGORIES: &[Category<Trial>] = &[
+    ("runs with room enough", 20_000, runs::accepted),
+    ("runs of special scores", 800, runs::of_special_scores),
+    ("long runs", 30, runs::long),
+    ("runs with any room", 10_000, runs::with_any_room),
+    ("runs with every room", 100, runs::with_every_room),
+    ("lists cut at every byte", 300, runs::cut_at_every_byte),
+    ("every short list", short::COUNT, short::every_list),
+    ("every short journal", short::COUNT, short::every_journal),
+    ("lists with every bit damaged", 100, runs::every_bit_damaged),
+    ("damaged lists", 10_000, runs::of_damaged_lists),
+    ("lists of random bytes", 2_000, runs::list_of_random_bytes),
+    ("runs with several faults", 10_000, runs::several_faults),
+    ("runs of scores of the score check", 12_000, runs::of_checked_scores),
+    ("runs split", 4_000, runs::split),
+    ("journals of runs", 20_000, journals::accepted),
+    ("journals of special scores", 800, journals::of_special_scores),
+    ("long journals", 30, journals::long),
+    ("journals with every status changed", 1_000, journals::every_status_changed),
+    ("journals with every output changed", 600, journals::every_output_changed),
+    ("journals with an output added", 2_000, journals::output_added),
+    ("journals with every input changed", 600, journals::every_input_changed),
+    ("journals cut at every byte", 200, journals::cut_at_every_byte),
+    ("journals with every bit damaged", 60, journals::every_bit_damaged),
+    ("damaged journals", 10_000, journals::damaged),
+    ("journals from another start", 4_000, journals::of_another_start),
+    ("journals with several faults", 10_000, journals::several_faults),
+    ("journals of scores of the score check", 12_000, journals::of_checked_scores),
+    ("calls in turn on one state", 6_000, calls_in_turn::any_calls),
+];
+
+fn test(tests: &mut Tests) {
+    tests.cases(cases::all());
+    tests.categories(CATEGORIES, |trial, met, random, index| trial(met, random, index));
+    tests.require_numbers("run", (0..=9).chain([12, 13, 15]));
+    tests.require_numbers("journal check", (0..=8).chain(12..=14));
+}
+
+fn main() -> ExitCode {
+    tests::run(test)
+}

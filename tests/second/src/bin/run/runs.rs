@@ -1,0 +1,221 @@
+//! Generated runs.
+
+use crate::judge::{self, known};
+use second::answer::{refused, Answer};
+use second::calls::RunLent;
+use second::decoded::Decoded;
+use second::lent::*;
+use second::random::Random;
+use second::tests::{ensure, Met, Outcome};
+use second::{oracle, scenes, words};
+
+/// A run of at most so many instants, with room enough in the journal.
+pub fn lawful(random: &mut Random, score: Vec<u8>, most_instants: u32) -> RunLent {
+    let decoded = Decoded::new(&score);
+    let inputs = scenes::list(random, &decoded, most_instants);
+    let instants = self::instants(&inputs).len();
+    let room = inputs.len() + instants * 4 * decoded.ports.clone().count() + random.below(9) as usize;
+    RunLent {
+        state: scenes::lawful_state(random, &decoded),
+        inputs,
+        journal: scenes::dirt(random, room),
+        scratch: scenes::dirt(random, SCRATCH_BYTES),
+        score,
+    }
+}
+
+fn any_lawful(random: &mut Random, most_instants: u32) -> RunLent {
+    let score = scenes::score(random);
+    lawful(random, score, most_instants)
+}
+
+fn small_lawful(random: &mut Random, most_instants: u32) -> RunLent {
+    let score = scenes::small_score(random);
+    lawful(random, score, most_instants)
+}
+
+/// With room enough every list is run to its end.
+pub fn accepted(met: &mut Met, random: &mut Random, _: u64) -> Outcome {
+    let lent = any_lawful(random, 12);
+    let (answer, _) = judge::run(met, random, &lent)?;
+    known(answer, answer == Answer::Accepted(instants(&lent.inputs).len() as u64))
+}
+
+pub fn of_special_scores(met: &mut Met, random: &mut Random, _: u64) -> Outcome {
+    let score = scenes::special_score(random);
+    let lent = lawful(random, score, 4);
+    judge::run(met, random, &lent).map(|_| ())
+}
+
+pub fn long(met: &mut Met, random: &mut Random, _: u64) -> Outcome {
+    let lent = small_lawful(random, 3_000);
+    judge::run(met, random, &lent).map(|_| ())
+}
+
+/// The journal ends anywhere.
+pub fn with_any_room(met: &mut Met, random: &mut Random, _: u64) -> Outcome {
+    let mut lent = any_lawful(random, 12);
+    let room = random.below(lent.journal.len() as u32 + 1);
+    lent.journal.truncate(room as usize);
+    judge::run(met, random, &lent).map(|_| ())
+}
+
+/// The journal ends at every byte in turn; from what the whole run needs on, the run is accepted.
+pub fn with_every_room(met: &mut Met, random: &mut Random, _: u64) -> Outcome {
+    let lent = small_lawful(random, 6);
+    let mut stopped = true;
+    for room in 0..=lent.journal.len() {
+        let mut lent = lent.clone();
+        lent.journal.truncate(room);
+        let (answer, _) = judge::run(met, random, &lent)?;
+        known(answer, stopped || answer.number() == 0)?;
+        stopped = answer.number() == 15;
+    }
+    Ok(())
+}
+
+/// The list is cut at every byte in turn: between words it is 12, and there is no other refusal.
+pub fn cut_at_every_byte(met: &mut Met, random: &mut Random, _: u64) -> Outcome {
+    let lent = small_lawful(random, 8);
+    for length in 0..lent.inputs.len() {
+        let mut lent = lent.clone();
+        lent.inputs.truncate(length);
+        let (answer, _) = judge::run(met, random, &lent)?;
+        known(answer, answer.number() == if length % 4 == 0 { 0 } else { 12 })?;
+    }
+    Ok(())
+}
+
+/// Every bit of a list is damaged in turn.
+pub fn every_bit_damaged(met: &mut Met, random: &mut Random, _: u64) -> Outcome {
+    let lent = small_lawful(random, 4);
+    for bit in 0..8 * lent.inputs.len() {
+        let mut lent = lent.clone();
+        lent.inputs[bit / 8] ^= 1 << (bit % 8);
+        judge::run(met, random, &lent)?;
+    }
+    Ok(())
+}
+
+/// Words put in, taken out, exchanged or replaced.
+pub fn damage_words(random: &mut Random, bytes: &mut Vec<u8>) {
+    let mut words = oracle::words(bytes);
+    let place = random.below(words.len() as u32 + 1) as usize;
+    let other = random.below(words.len() as u32 + 1) as usize;
+    match random.below(4) {
+        0 => words.insert(place, any_word(random)),
+        1 if place < words.len() => drop(words.remove(place)),
+        2 if place.max(other) < words.len() => words.swap(place, other),
+        _ if place < words.len() => words[place] = any_word(random),
+        _ => words.push(any_word(random)),
+    }
+    *bytes = words::to_bytes(&words);
+}
+
+/// A word of a list or journal, or one that is close to it.
+fn any_word(random: &mut Random) -> u32 {
+    let token = random.pick(&[0, 1, 2, 3, 5, 9, 255, 256]);
+    match random.below(8) {
+        0 => instant_word(0),
+        1 => instant_word(random.below(4)),
+        2..=4 => input_word(token),
+        5 => output_word(token),
+        6 => random.word(),
+        _ => random.below(16) << 28 | random.below(8),
+    }
+}
+
+pub fn of_damaged_lists(met: &mut Met, random: &mut Random, _: u64) -> Outcome {
+    let mut lent = any_lawful(random, 10);
+    for _ in 0..random.between(1, 2) {
+        damage_words(random, &mut lent.inputs);
+    }
+    judge::run(met, random, &lent).map(|_| ())
+}
+
+/// Any mixture of what may be wrong; an aborted state, or no room, switches off no test.
+pub fn several_faults(met: &mut Met, random: &mut Random, _: u64) -> Outcome {
+    let mut lent = small_lawful(random, 6);
+    let decoded = Decoded::new(&lent.score);
+    if random.one_in(3) {
+        damage_words(random, &mut lent.inputs);
+    }
+    if random.one_in(4) {
+        lent.inputs.push(random.word() as u8);
+    }
+    match random.below(4) {
+        0 => lent.state = scenes::unlawful_state(random, &decoded),
+        1 => lent.state = State::Aborted.bytes(),
+        _ => {}
+    }
+    match random.below(6) {
+        0 => scenes::resize(random, &mut lent.state),
+        1 => scenes::resize(random, &mut lent.scratch),
+        _ => {}
+    }
+    if random.one_in(4) {
+        scenes::damage_score(random, &mut lent.score);
+    }
+    if random.one_in(3) {
+        lent.journal.truncate(random.below(20) as usize);
+    }
+    judge::run(met, random, &lent).map(|_| ())
+}
+
+/// Scores of the score check's generators, with circles and damage of every kind.
+pub fn of_checked_scores(met: &mut Met, random: &mut Random, index: u64) -> Outcome {
+    let lent = RunLent {
+        score: scenes::checked_score(random, index),
+        state: state_bytes(RUNNING, [0]),
+        inputs: list_bytes(&[vec![], vec![0]]),
+        journal: scenes::dirt(random, 64),
+        scratch: scenes::dirt(random, SCRATCH_BYTES),
+    };
+    judge::run(met, random, &lent).map(|_| ())
+}
+
+/// A run split at random points, on one state, writes the whole run's journal and leaves its state.
+pub fn split(met: &mut Met, random: &mut Random, _: u64) -> Outcome {
+    let whole = any_lawful(random, 10);
+    let (_, after_whole) = judge::run(met, random, &whole)?;
+    let mut part = whole.clone();
+    let mut journal = Vec::new();
+    for inputs in parts(random, &whole.inputs) {
+        part.inputs = inputs;
+        part.journal = vec![0; whole.journal.len()];
+        let (answer, after) = judge::run(met, random, &part)?;
+        known(answer, answer == Answer::Accepted(instants(&part.inputs).len() as u64))?;
+        journal.extend(written(&after.journal));
+        part.state = after.state;
+    }
+    ensure(part.state == after_whole.state, "the parts leave another state than the whole")?;
+    ensure(after_whole.journal.starts_with(&journal), "the parts' journals are not the whole's")
+}
+
+/// A list in parts that end where instants end; some of them are empty.
+fn parts(random: &mut Random, list: &[u8]) -> Vec<Vec<u8>> {
+    let mut parts = vec![vec![]];
+    for instant in instants(list) {
+        while random.one_in(3) {
+            parts.push(vec![]);
+        }
+        let last = parts.len() - 1;
+        parts[last].extend(&list[4 * instant.start..4 * instant.end]);
+    }
+    parts
+}
+
+/// What a run wrote to a journal that was all zero.
+pub fn written(journal: &[u8]) -> &[u8] {
+    let words = journal.chunks_exact(4).take_while(|word| *word != [0; 4]).count();
+    &journal[..4 * words]
+}
+
+/// Random bytes are 12 or 13, if they are any.
+pub fn list_of_random_bytes(met: &mut Met, random: &mut Random, _: u64) -> Outcome {
+    let mut lent = small_lawful(random, 3);
+    let length = random.below(64) as usize;
+    lent.inputs = scenes::dirt(random, length);
+    let (answer, _) = judge::run(met, random, &lent)?;
+    known(answer, length == 0 || answer == refused(12, 0) || answer.number() == 13)
+}

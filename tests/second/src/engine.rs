@@ -1,0 +1,202 @@
+//! The order of an instant, step by step as the document tells it: copies in a multiset, any one of them reduced.
+
+use crate::decoded::{Agent, Decoded, Form, Token};
+use crate::random::Random;
+use crate::weight::Weights;
+use std::collections::BTreeSet;
+
+/// One copy in the multiset: an agent, or the tell of an input token.
+#[derive(Clone, Copy, PartialEq, Eq, PartialOrd, Ord, Hash, Debug)]
+pub enum Copied {
+    Agent(Agent),
+    Input(Token),
+}
+
+/// For each token whether the store holds it.
+pub type Store = Vec<bool>;
+
+/// How a finished order ends. Awake next are copies, in rising order.
+#[derive(Clone, PartialEq, Eq, Hash, Debug)]
+pub enum End {
+    Abort,
+    Quiet { store: Store, awake: Vec<Agent>, reduced: BTreeSet<Agent> },
+}
+
+impl End {
+    pub fn status(&self) -> u32 {
+        match self {
+            End::Abort => 2,
+            End::Quiet { store, .. } => u32::from(store[0]),
+        }
+    }
+}
+
+#[derive(Clone)]
+pub struct Order<'a> {
+    score: &'a Decoded,
+    pub copies: Vec<Copied>,
+    pub store: Store,
+    pub reduced: BTreeSet<Agent>,
+    pub aborted: bool,
+    pub steps: u64,
+    /// Where copies are not kept: the agents that have been in the multiset.
+    joined: Option<BTreeSet<Agent>>,
+}
+
+/// Passes over the rules until nothing is added. A store that holds the clash holds all tokens.
+fn close(score: &Decoded, store: &mut Store) {
+    loop {
+        let before = store.clone();
+        for rule in &score.rules {
+            if rule.premises.iter().all(|&premise| store[premise]) {
+                store[rule.conclusion] = true;
+            }
+        }
+        if store[0] {
+            store.fill(true);
+        }
+        if *store == before {
+            return;
+        }
+    }
+}
+
+impl Order<'_> {
+    pub fn start<'a>(score: &'a Decoded, agents: &[Agent], inputs: &[Token]) -> Order<'a> {
+        let mut store = vec![false; score.tokens];
+        close(score, &mut store);
+        let agents = agents.iter().map(|&agent| Copied::Agent(agent));
+        let inputs = inputs.iter().map(|&token| Copied::Input(token));
+        Order {
+            score,
+            copies: agents.chain(inputs).collect(),
+            store,
+            reduced: BTreeSet::new(),
+            aborted: false,
+            steps: 0,
+            joined: None,
+        }
+    }
+
+    /// Keeps a set of agents in place of copies: an agent joins once. For orders that are too long to follow.
+    fn without_copies(mut self) -> Self {
+        let before = std::mem::take(&mut self.copies);
+        self.joined = Some(BTreeSet::new());
+        for copy in before {
+            match copy {
+                Copied::Agent(agent) => self.join(agent),
+                Copied::Input(_) => self.copies.push(copy),
+            }
+        }
+        self
+    }
+
+    fn join(&mut self, agent: Agent) {
+        let is_new = self.joined.as_mut().is_none_or(|joined| joined.insert(agent));
+        if is_new {
+            self.copies.push(Copied::Agent(agent));
+        }
+    }
+
+    pub fn can_reduce(&self, copy: Copied) -> bool {
+        match copy {
+            Copied::Input(_) => true,
+            Copied::Agent(agent) => match self.score.agents[agent] {
+                Form::Next { .. } => false,
+                Form::When { token, .. } | Form::Unless { token, .. } => self.store[token],
+                _ => true,
+            },
+        }
+    }
+
+    /// One step: reduces the copy at this place.
+    pub fn reduce(&mut self, place: usize) {
+        self.steps += 1;
+        match self.copies.swap_remove(place) {
+            Copied::Input(token) => self.tell(token),
+            Copied::Agent(agent) => {
+                self.reduced.insert(agent);
+                self.reduce_agent(self.score.agents[agent]);
+            }
+        }
+    }
+
+    fn reduce_agent(&mut self, form: Form) {
+        match form {
+            Form::Skip | Form::Unless { .. } => {}
+            Form::Abort => self.abort(),
+            Form::Tell(token) => self.tell(token),
+            Form::Parallel(half, other) => {
+                self.join(half);
+                self.join(other);
+            }
+            Form::When { body, .. } => self.join(body),
+            Form::Call { procedure } => self.join(self.score.roots[procedure]),
+            Form::Next { .. } => panic!("a next is not reduced"),
+        }
+    }
+
+    fn tell(&mut self, token: Token) {
+        self.store[token] = true;
+        close(self.score, &mut self.store);
+    }
+
+    fn abort(&mut self) {
+        self.store.fill(false);
+        self.copies.clear();
+        self.aborted = true;
+    }
+
+    /// Any one copy that can be reduced: the first from a random place on.
+    fn pick(&self, random: &mut Random) -> Option<usize> {
+        let count = self.copies.len();
+        let first = random.below(count.max(1) as u32) as usize;
+        (0..count).map(|step| (first + step) % count).find(|&place| self.can_reduce(self.copies[place]))
+    }
+
+    pub fn finish(&mut self, random: &mut Random) -> End {
+        while let Some(place) = self.pick(random) {
+            self.reduce(place);
+        }
+        self.end()
+    }
+
+    /// The end of an order that is finished.
+    pub fn end(&self) -> End {
+        if self.aborted {
+            return End::Abort;
+        }
+        let mut awake: Vec<Agent> = self.copies.iter().filter_map(|&copy| self.woken_by(copy)).collect();
+        awake.sort_unstable();
+        End::Quiet { store: self.store.clone(), awake, reduced: self.reduced.clone() }
+    }
+
+    fn woken_by(&self, copy: Copied) -> Option<Agent> {
+        match copy {
+            Copied::Input(_) => None,
+            Copied::Agent(agent) => match self.score.agents[agent] {
+                Form::Next { body } | Form::Unless { body, .. } => Some(body),
+                _ => None,
+            },
+        }
+    }
+}
+
+/// Heavier orders are followed without copies.
+const HEAVIEST_FOLLOWED: u64 = 5_000;
+
+/// The end of an instant, by a random order.
+pub fn instant(score: &Decoded, agents: &[Agent], inputs: &[Token], random: &mut Random) -> End {
+    let weight = Weights::new(score).of_order(agents, inputs.len());
+    if weight > HEAVIEST_FOLLOWED {
+        return instant_without_copies(score, agents, inputs, random);
+    }
+    let mut order = Order::start(score, agents, inputs);
+    let end = order.finish(random);
+    assert!(order.steps <= weight, "an order of {} steps has weight {weight}", order.steps);
+    end
+}
+
+pub fn instant_without_copies(score: &Decoded, agents: &[Agent], inputs: &[Token], random: &mut Random) -> End {
+    Order::start(score, agents, inputs).without_copies().finish(random)
+}

@@ -1,0 +1,19 @@
+//! A second engine, written from the document alone, and what the test programs share.
+
+pub mod answer;
+pub mod calls;
+pub mod circles;
+pub mod decoded;
+pub mod engine;
+pub mod every_order;
+pub mod generate;
+pub mod guarded;
+pub mod lent;
+pub mod oracle;
+pub mod random;
+pub mod sample;
+pub mod scenes;
+pub mod sequence;
+pub mod tests;
+pub mod weight;
+pub mod words;
