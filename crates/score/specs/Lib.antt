@@ -1,3 +1,6 @@
 pub mod Answer
 pub mod CheckCall
 pub mod ScoreInstant
+pub mod Slice
+pub mod ScoreRun
+pub mod ScoreJournalCheck

@@ -1,0 +1,5 @@
+pub mod Calls
+pub mod Determinacy
+pub mod Operational
+pub mod JournalExact
+pub mod Corollaries

@@ -1,0 +1,4 @@
+pub mod Standing
+pub mod Run
+pub mod RunCall
+pub mod JournalCheckCall

@@ -1,0 +1,66 @@
+-- The instants of a run, one after the other, each from the state that the one before left.
+--     answerIn       what the definition of an instant answers, from the bytes of a state
+--     stopAt         why an instant is not written: 11, the next state would meet 9; 15, its words exceed the bytes left
+--     Ran            what a run did: the words of the instants written, the state after them, how many, and why it stopped
+--     runFrom        a run, from a state, with so many journal bytes left
+--     checkFrom      a journal check, from a state, where so many instants have been read: 11, 14 at the first instant
+--                    that is not what the run writes, or accepted with the instants read
+use mathlib.Core.Bool.{Bool, true, false, cond, _&&_}
+use mathlib.Core.List.{List, [], _∷_, _++_}
+use Prim.Native.Nat.{ℕ, zero, suc, _*_, _-_}
+use lib.Dec.{eqb, leb}
+use lib.ListN.{length}
+use Rattle.tcc.specs.Instant.{Answer, answer, after}
+use Rattle.format.specs.Decode.{sizes, decode}
+use Rattle.lent.specs.States.{stateFault, stateOf, asBytes}
+use Rattle.journal.specs.Instants.{inputsIn}
+use Rattle.journal.specs.History.{entry}
+use Rattle.history.specs.declared.Stop.{Stop}
+use Rattle.history.specs.declared.Stop.the-variants.{Not, Next, Room}
+use Rattle.history.specs.declared.Reply.{Reply}
+use Rattle.history.specs.declared.Reply.the-variants.{Unlawful, Differs, Accepted}
+
+unfoldable pub answerIn : List ℕ → List ℕ → List ℕ → Answer
+answerIn score state inputs = answer (decode score) (stateOf state) inputs
+
+unfoldable pub stopAt : List ℕ → Answer → ℕ → ℕ → Stop
+stopAt score a needed room = cond (stateFault (sizes score .agents) (asBytes (after a))) Next (cond (leb needed room) Not Room)
+
+pub record Ran : Type 0 where
+  pub words : List ℕ
+  pub state : List ℕ
+  pub instants : ℕ
+  pub stop : Stop
+
+abbrev pub stopped : List ℕ → Stop → Ran
+stopped state why = record { words = []; state = state; instants = 0; stop = why }
+
+-- one instant, then the others
+abbrev pub preceded : List ℕ → Ran → Ran
+preceded e r = record { words = e ++ r .words; state = r .state; instants = suc (r .instants); stop = r .stop }
+
+abbrev pub unlessStopped : Stop → List ℕ → List ℕ → Ran → Ran
+unlessStopped Not state e r = preceded e r
+unlessStopped Next state e r = stopped state Next
+unlessStopped Room state e r = stopped state Room
+
+unfoldable pub runFrom : List ℕ → List ℕ → ℕ → List (List ℕ) → Ran
+runFrom score state room [] = stopped state Not
+runFrom score state room (inputs ∷ more) =
+    unlessStopped (stopAt score (answerIn score state inputs) (4 * length (entry (decode score) inputs (answerIn score state inputs))) room) state
+    (entry (decode score) inputs (answerIn score state inputs))
+    (runFrom score (asBytes (after (answerIn score state inputs))) (room - 4 * length (entry (decode score) inputs (answerIn score state inputs))) more)
+
+abbrev pub same : List ℕ → List ℕ → Bool
+same [] [] = true
+same [] (w ∷ ws) = false
+same (v ∷ vs) [] = false
+same (v ∷ vs) (w ∷ ws) = eqb v w && same vs ws
+
+unfoldable pub checkFrom : List ℕ → List ℕ → ℕ → List (List ℕ) → Reply
+checkFrom score state read [] = Accepted read
+checkFrom score state read (ws ∷ more) =
+    cond (stateFault (sizes score .agents) (asBytes (after (answerIn score state (inputsIn ws))))) Unlawful
+    (cond (same ws (entry (decode score) (inputsIn ws) (answerIn score state (inputsIn ws))))
+    (checkFrom score (asBytes (after (answerIn score state (inputsIn ws)))) (suc read) more)
+    (Differs read))
