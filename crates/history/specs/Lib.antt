@@ -1,4 +1,3 @@
-pub mod Standing
 pub mod Run
 pub mod RunCall
 pub mod JournalCheckCall

@@ -1,6 +1,7 @@
 -- The instants of a run, one after the other, each from the state that the one before left.
 --     answerIn       what the definition of an instant answers, from the bytes of a state
---     stopAt         why an instant is not written: 11, the next state would meet 9; 15, its words exceed the bytes left
+--     stopBy         why an instant is not written: 11, the next state would meet 9; 15, its words exceed the bytes left
+--     stopAt         the same, by the answer
 --     Ran            what a run did: the words of the instants written, the state after them, how many, and why it stopped
 --     runFrom        a run, from a state, with so many journal bytes left
 --     checkFrom      a journal check, from a state, where so many instants have been read: 11, 14 at the first instant
@@ -23,8 +24,11 @@ use Rattle.history.specs.declared.Reply.the-variants.{Unlawful, Differs,
 unfoldable pub answerIn : List ℕ → List ℕ → List ℕ → Answer
 answerIn score state inputs = answer (decode score) (stateOf state) inputs
 
+abbrev pub stopBy : Bool → ℕ → ℕ → Stop
+stopBy unlawful needed room = cond unlawful Next (cond (leb needed room) Not Room)
+
 unfoldable pub stopAt : List ℕ → Answer → ℕ → ℕ → Stop
-stopAt score a needed room = cond (stateFault (sizes score .agents) (asBytes (after a))) Next (cond (leb needed room) Not Room)
+stopAt score a needed room = stopBy (stateFault (sizes score .agents) (asBytes (after a))) needed room
 
 pub record Ran : Type 0 where
   pub words : List ℕ

@@ -1,5 +1,4 @@
 use scorefile::Verdict;
-use store::Agents;
 
 // What a run or a journal check answers.
 pub enum Reply {
@@ -30,10 +29,4 @@ pub enum Stop {
     Next,
     // Its words exceed the journal bytes left.
     Room,
-}
-
-// Where a score stands between the instants of a call.
-pub struct Standing {
-    pub running: bool,
-    pub awake: Agents,
 }

@@ -1,5 +1,6 @@
 -- What goes to the ports.
---     ports-same      the flags from the lowest to the highest port are the output
+--     ports-flags     the flags from the lowest to the highest port are the output's
+--     output-below    the output has no token past the highest port
 use mathlib.Core.Path.{_≡_, refl, sym, ap, subst, _∙_}
 use mathlib.Core.Bool.{Bool, true, false, _&&_}
 use mathlib.Core.List.{List, map, List·Memᴰ, List·Memᴰ·head}
@@ -8,12 +9,12 @@ use borrow.Author.Tests.{leb-true, le-leb}
 use native.Mathlib.Omega.{arith}
 use lib.Dec.{leb}
 use lib.ListN.{length, getD}
-use Rattle.tcc.specs.Sets.{Same, below, keep, has}
+use Rattle.tcc.specs.Sets.{below, keep, has}
 use Rattle.tcc.specs.Score.{Score}
 use Rattle.tcc.specs.Instant.{output}
-use Rattle.tcc.proofs.Sets.{and-both, both-and, keep-kept, on-keep, on-map, map-member, has-member, member-has, below-lt, lt-below}
-use Rattle.store.specs.Flags.{setOf}
-use Rattle.store.proofs.Flags.{flag-member, member-flag}
+use Rattle.tcc.proofs.Sets.{Within, and-both, both-and, keep-kept, on-keep, on-map, map-member, has-member, member-has, below-lt, lt-below}
+use Rattle.store.specs.Flags.{setOf, flagsOf}
+use Rattle.store.proofs.Flags.{flag-member, member-flag, flags-settled}
 
 module _ (sc : Score) (status : ℕ) (store sent : List Bool)
     (sends : (i : ℕ) → getD sent i false ≡ (leb (sc .lowest-port) i && leb i (sc .highest-port) && getD store i false)) where
@@ -42,5 +43,12 @@ module _ (sc : Score) (status : ℕ) (store sent : List Bool)
       (sends t
       ∙ both-and (both-and (le-leb (sc .lowest-port) t (omega arith)) (le-leb t (sc .highest-port) (omega arith))) (member-flag store (has-member t (setOf store) h)))))
 
-  pub ports-same : Same (setOf sent) (output sc status (setOf store))
-  ports-same t = (goes t, comes t)
+  pub ports-flags : length sent ≡ 256 → sent ≡ flagsOf 256 (output sc status (setOf store))
+  ports-flags long = flags-settled 256 (output sc status (setOf store)) sent long (λ t h. (goes t, comes t))
+
+pub output-below : (sc : Score) (status : ℕ) (store : List ℕ) → sc .lowest-port ≤ sc .highest-port → Within (λ t. t ≤ sc .highest-port) (output sc status store)
+unfolding output
+output-below sc status store ordered =
+    on-keep {P = λ t. t ≤ sc .highest-port} (λ u. has u store) (map (λ k. sc .lowest-port + k) (below (suc (sc .highest-port) - sc .lowest-port)))
+    (on-map (λ t. has t store ≡ true → t ≤ sc .highest-port) (λ k. sc .lowest-port + k) (below (suc (sc .highest-port) - sc .lowest-port))
+    (λ k m h. let lt : k < suc (sc .highest-port) - sc .lowest-port = below-lt (suc (sc .highest-port) - sc .lowest-port) k m in omega arith))

@@ -26,7 +26,7 @@ use Rattle.lent.specs.Maps.{mapOf}
 use Rattle.lent.specs.States.{runningWord, abortedWord, agentWords, stateFault, asBytes, LawfulState}
 use Rattle.lent.proofs.Round.{agentWords-same, lawful-bytes, mapOf-same}
 
-flags-back : (n : ℕ) (l : List ℕ) → ((i : ℕ) → List·Memᴰ i l → i < n) → Same (setOf (flagsOf n l)) l
+pub flags-back : (n : ℕ) (l : List ℕ) → ((i : ℕ) → List·Memᴰ i l → i < n) → Same (setOf (flagsOf n l)) l
 flags-back n l within i = (λ m. flagsOf-member n l m, λ m. member-flagsOf n l (within i m) m)
 
 pub record Inside (sc : Score) (a : Answer) : Type 0 where

@@ -12,10 +12,12 @@ ghost use Rattle.engine.specs.Outcome.{outcomeOf};
 ghost use Rattle.lent.specs.Maps.{mapBytes};
 ghost use Rattle.lent.specs.States.{stateBytes, runningWord, abortedWord, stateOf};
 ghost use Rattle.instant.specs.InstantCall.{lent, scratchBytes, InstantCall};
+ghost use Rattle.instant.specs.Standing.{stateIn};
 ghost use Rattle.instant.specs.HandedOver.{Buffers, Known, HandedOver};
 use engine::Outcome;
 use format::Sizes;
 use scorefile::Verdict;
+use store::Agents;
 use store::Tokens;
 
 // The bytes of a state, of a map and of the scratch.
@@ -44,6 +46,12 @@ pub enum Reply {
     Next,
     // Answered: the status and the count.
     Settled(usize, usize),
+}
+
+// Where a score stands between two instants.
+pub struct Standing {
+    pub running: bool,
+    pub awake: Agents,
 }
 
 // One instant of a score over lent buffers.
@@ -105,16 +113,11 @@ fn hand_over(
 {
     let held = outcome.store;
     let awake = outcome.awake;
-    let ports = words::word_at(score, 1);
     let first = first_word(outcome.status);
     lent::write_state(state, first, head.agents, awake);
     lent::write_map(store, head.tokens, held);
-    let sent = to_ports(
-        held,
-        format::number(ports, 0, 8),
-        format::number(ports, 8, 8),
-    );
-    lent::write_map(output, head.tokens, sent);
+    let out = sent(score, held);
+    lent::write_map(output, head.tokens, out);
 }
 
 // Word 0 of the state after an answer.
@@ -135,22 +138,56 @@ fn wrong_length(state: usize, input: usize, store: usize, output: usize, scratch
         | (scratch != SCRATCH_BYTES)
 }
 
-// The answer in a state: an aborted one stays aborted.
+// The answer in a state.
 fn answer_in(score: &[u8], head: Sizes, state: &[u8], inputs: Tokens) -> Outcome
     requires { ⌜ head ≡ sizes (now score) ⌝ }
     requires { ⌜ Playable (now score) ⌝ }
     requires { ⌜ length (now state) ≡ 132 ⌝ }
     ensures { λ r. ⌜ r ≡ outcomeOf (answer (decode (now (score .entry))) (stateOf (now (state .entry))) (setOf inputs)) ⌝ }
 {
-    if words::word_at(state, 0) == ABORTED {
-        return Outcome {
+    answer_from(score, head, standing_in(state), inputs)
+}
+
+// Where a score stands in a state.
+pub fn standing_in(state: &[u8]) -> Standing
+    requires { ⌜ length (now state) ≡ 132 ⌝ }
+    ensures { λ r. ⌜ stateIn r ≡ stateOf (now (state .entry)) ⌝ }
+{
+    let running = words::word_at(state, 0) != ABORTED;
+    let awake = lent::read_agents(state);
+    Standing { running, awake }
+}
+
+// The answer from where a score stands: an aborted one stays aborted.
+pub fn answer_from(score: &[u8], head: Sizes, standing: Standing, inputs: Tokens) -> Outcome
+    requires { ⌜ head ≡ sizes (now score) ⌝ }
+    requires { ⌜ Playable (now score) ⌝ }
+    ensures { λ r. ⌜ r ≡ outcomeOf (answer (decode (now (score .entry))) (stateIn standing) (setOf inputs)) ⌝ }
+{
+    let awake = standing.awake;
+    if standing.running {
+        engine::play(score, head, awake, inputs)
+    } else {
+        Outcome {
             status: 2,
             count: 0,
             store: [false; 256],
             awake: [false; 1024],
-        };
+        }
     }
-    engine::play(score, head, lent::read_agents(state), inputs)
+}
+
+// What goes to the ports of a store: the one place where outputs are read off.
+pub fn sent(score: &[u8], store: Tokens) -> Tokens
+    requires { ⌜ Playable (now score) ⌝ }
+    ensures { λ r. ⌜ ((status : ℕ) → r ≡ flagsOf 256 (output (decode (now (score .entry))) status (setOf store))) ⌝ }
+{
+    let ports = words::word_at(score, 1);
+    to_ports(
+        store,
+        format::number(ports, 0, 8),
+        format::number(ports, 8, 8),
+    )
 }
 
 // The tokens of a store from the lowest to the highest port.
