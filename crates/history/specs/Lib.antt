@@ -1,3 +1,4 @@
 pub mod Run
+pub mod Advance
 pub mod RunCall
 pub mod JournalCheckCall

@@ -10,7 +10,7 @@ ghost use Rattle.store.specs.Flags.{setOf, flagsOf};
 ghost use Rattle.store.specs.Playable.{Playable};
 ghost use Rattle.engine.specs.Outcome.{outcomeOf};
 ghost use Rattle.lent.specs.Maps.{mapBytes};
-ghost use Rattle.lent.specs.States.{stateBytes, runningWord, abortedWord, stateOf};
+ghost use Rattle.lent.specs.States.{stateBytes, runningWord, abortedWord, stateOf, asBytes, LawfulState};
 ghost use Rattle.instant.specs.InstantCall.{lent, scratchBytes, InstantCall};
 ghost use Rattle.instant.specs.Standing.{stateIn};
 ghost use Rattle.instant.specs.HandedOver.{Buffers, Known, HandedOver};
@@ -175,6 +175,31 @@ pub fn answer_from(score: &[u8], head: Sizes, standing: Standing, inputs: Tokens
             awake: [false; 1024],
         }
     }
+}
+
+// Where a score stands after an outcome.
+pub fn standing_after(outcome: Outcome) -> Standing
+    ensures { λ r. ⌜ (r .running ≡ not (eqb (outcome .status) 2)) × (r .awake ≡ outcome .awake) ⌝ }
+{
+    let awake = outcome.awake;
+    Standing {
+        running: outcome.status != 2,
+        awake,
+    }
+}
+
+// Writes the state that a score stands in.
+pub fn write_standing(state: &mut [u8], agents: usize, standing: Standing)
+    requires { ⌜ length (now state) ≡ 132 ⌝ }
+    requires { ⌜ LawfulState agents (stateIn standing) ⌝ }
+    ensures { λ _. ⌜ now (state .exit) ≡ asBytes (stateIn standing) ⌝ }
+{
+    let awake = standing.awake;
+    if standing.running {
+        lent::write_state(state, RUNNING, agents, awake);
+        return;
+    }
+    lent::write_state(state, ABORTED, 0, [false; 1024]);
 }
 
 // What goes to the ports of a store: the one place where outputs are read off.
