@@ -1,9 +1,11 @@
 ghost use mathlib.Core.Path.{_≡_};
 ghost use mathlib.Core.Bool.{cond, _&&_};
+ghost use Prim.Native.Nat.{_*_};
 ghost use lib.Dec.{ltb};
 ghost use Rattle.words.specs.Word.{words};
 ghost use Rattle.format.specs.Format.{isWord};
 ghost use Rattle.journal.specs.Form.{tokenOf, statusOf, isInstant, rises, mayFollow, formOf};
+ghost use Rattle.journal.specs.Instants.{span, partFrom, partAt};
 
 // The form of a list or journal.
 pub enum Form {
@@ -79,4 +81,46 @@ fn rises(kind: u32, last: u32, w: u32) -> bool
     ensures { λ r. ⌜ r ≡ rises kind last w ⌝ }
 {
     (words::bits(last, 28, 4) == kind) & (format::number(last, 0, 8) < format::number(w, 0, 8))
+}
+
+// The part of a journal's bytes from a position to the next instant word or the end; empty where the form is against it.
+pub fn part(bytes: &[u8], form: Form, at: usize) -> &[u8]
+    ensures { λ r. ⌜ now r ≡ partAt form (now (bytes .entry)) at ⌝ }
+{
+    match form {
+        Form::Good => {
+            if at % 4 != 0 {
+                return &bytes[0..0];
+            }
+            if bytes.len() < at {
+                return &bytes[0..0];
+            }
+            first_part(&bytes[at..])
+        }
+        Form::Bytes => &bytes[0..0],
+        Form::Word(_) => &bytes[0..0],
+    }
+}
+
+// The first part of bytes.
+fn first_part(bytes: &[u8]) -> &[u8]
+    ensures { λ r. ⌜ now r ≡ partFrom (now (bytes .entry)) ⌝ }
+{
+    let end = span_of(bytes);
+    &bytes[0..end]
+}
+
+// How many bytes the first part of bytes has.
+fn span_of(bytes: &[u8]) -> usize
+    ensures { λ r. ⌜ r ≡ 4 * span (words (now (bytes .entry))) ⌝ }
+{
+    let count = words::word_count(bytes);
+    let mut k = 1;
+    while k < count {
+        if is_instant(words::word_at(bytes, k)) {
+            return 4 * k;
+        }
+        k += 1;
+    }
+    4 * count
 }
