@@ -52,9 +52,9 @@ loop-again c =
     let kd = c .before .bits .ensures in (
       l .inv .0,
       ⊎-elim
-      (λ w. w .2 ∙ tokens-more (a .kind) ws (l .k) (omega arith) word (l .inv .1) (sym kd ∙ w .0 .taken) (w .1 .ensures))
-      (λ w. w .1 ∙ tokens-other (a .kind) ws (l .k) (omega arith) word (l .inv .1) (λ e. w .0 .left (kd ∙ e)))
-      (c .if1 .came),
+          (λ w. w .2 ∙ tokens-more (a .kind) ws (l .k) (omega arith) word (l .inv .1) (sym kd ∙ w .0 .taken) (w .1 .ensures))
+          (λ w. w .1 ∙ tokens-other (a .kind) ws (l .k) (omega arith) word (l .inv .1) (λ e. w .0 .left (kd ∙ e)))
+          (c .if1 .came),
     )
 
 returns : tie.Need-returns Inv-loop μ-loop
