@@ -6,12 +6,16 @@
 --     span-end         past the last word: it has all
 --     span-fits        the part is within the bytes
 --     span-positive    and has a word, if the bytes have
+--     part-length      its length
+--     rest-length      what is left is a multiple of 4, if all was
 --     instants-step    the first instant, and those of the rest
 --     part-starts      the rest has no words or starts with an instant word
+--     starts-some      so it starts with one, if it has a word
+--     instants-end     bytes without a word have no instants
 --     part-on, part-off, part-past     the part from a position on: of a good form, where a word starts; where none does; past the end
 --     part-bytes, part-word            of another form
---     good-starts      so do bytes of a good form
---     good-four        which are a multiple of 4
+--     good-starts      bytes of a good form have no words or start with an instant word
+--     good-four        and are a multiple of 4
 use mathlib.Core.Path.{_≡_, refl, sym, ap, ap₂, _∙_}
 use mathlib.Core.Bool.{Bool, true, false, cond, _&&_, _||_, and-false}
 use mathlib.Core.List.{List, [], _∷_}
@@ -21,8 +25,8 @@ use borrow.Author.Tests.{eqb-true, ne-eqb}
 use native.Mathlib.Numerals.{add-one}
 use native.Mathlib.Omega.{arith}
 use lib.Dec.{eqb, ltb}
-use lib.ListN.{length, getD, take, drop, drop-of-length-le}
-use lib.Seq.{drop-cons}
+use lib.ListN.{length, getD, take, drop, length-drop, drop-of-length-le}
+use lib.Seq.{length-take-le, drop-cons}
 use Rattle.tcc.proofs.Sets.{true-is-false, and-both}
 use Rattle.words.specs.Word.{words, wordAt, field}
 use Rattle.words.proofs.Words.{words-length}
@@ -131,6 +135,12 @@ span-some (w ∷ ws) h = omega arith
 pub span-positive : (bytes : List ℕ) → 4 ≤ length bytes → 1 ≤ span (words bytes)
 span-positive bytes h = span-some (words bytes) (omega (arith, words-length bytes))
 
+pub part-length : (bytes : List ℕ) → length (partFrom bytes) ≡ 4 * span (words bytes)
+part-length bytes = length-take-le (4 * span (words bytes)) bytes (span-fits bytes)
+
+pub rest-length : (bytes : List ℕ) → length bytes % 4 ≡ 0 → length (drop (4 * span (words bytes)) bytes) % 4 ≡ 0
+rest-length bytes h = omega (arith, length-drop (4 * span (words bytes)) bytes, span-fits bytes)
+
 -- ---- instant by instant
 
 first-and-rest : (ws : List ℕ) → 1 ≤ span ws → isInstant (getD ws 0 0) ≡ true → instantsIn ws ≡ take (span ws) ws ∷ instantsIn (drop (span ws) ws)
@@ -148,6 +158,18 @@ rest-starts (w ∷ ws) = upTo-starts ws
 
 pub part-starts : (bytes : List ℕ) → let rest = drop (4 * span (words bytes)) bytes in (words rest ≡ []) ⊎ (isInstant (wordAt rest 0) ≡ true)
 part-starts bytes = rw (words-drop bytes (span (words bytes))) (rest-starts (words bytes))
+
+pub starts-some : (bytes : List ℕ) → 4 ≤ length bytes → (words bytes ≡ []) ⊎ (isInstant (wordAt bytes 0) ≡ true) → isInstant (wordAt bytes 0) ≡ true
+starts-some bytes h (inl e) = absurd (omega (arith, words-length bytes, ap length e))
+starts-some bytes h (inr e) = e
+
+pub instants-end : (bytes : List ℕ) → length bytes < 4 → instantsIn (words bytes) ≡ []
+unfolding instantsIn
+instants-end bytes h = go (words bytes) (omega (arith, words-length bytes))
+  where
+    go : (ws : List ℕ) → length ws ≡ 0 → instantsIn ws ≡ []
+    go [] e = refl
+    go (w ∷ ws) e = absurd (omega arith)
 
 -- ---- the part from a position on
 

@@ -4,8 +4,10 @@ ghost use Prim.Native.Nat.{_*_};
 ghost use lib.Dec.{ltb};
 ghost use Rattle.words.specs.Word.{words};
 ghost use Rattle.format.specs.Format.{isWord};
+ghost use Rattle.store.specs.Flags.{flagsOf};
 ghost use Rattle.journal.specs.Form.{tokenOf, statusOf, isInstant, rises, mayFollow, formOf};
-ghost use Rattle.journal.specs.Instants.{span, partFrom, partAt};
+ghost use Rattle.journal.specs.Instants.{tokensOf, span, partFrom, partAt};
+use store::Tokens;
 
 // The form of a list or journal.
 pub enum Form {
@@ -123,4 +125,22 @@ fn span_of(bytes: &[u8]) -> usize
         k += 1;
     }
     4 * count
+}
+
+// The tokens of the words of a kind, as flags.
+pub fn tokens_in(bytes: &[u8], kind: u32) -> Tokens
+    ensures { λ r. ⌜ r ≡ flagsOf 256 (tokensOf kind (words (now (bytes .entry)))) ⌝ }
+{
+    let count = words::word_count(bytes);
+    let mut flags = [false; 256];
+    let mut k = 0;
+    while k < count {
+        let w = words::word_at(bytes, k);
+        if words::bits(w, 28, 4) == kind {
+            let t = format::number(w, 0, 8);
+            flags[t] = true;
+        }
+        k += 1;
+    }
+    flags
 }
