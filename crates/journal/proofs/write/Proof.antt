@@ -1,0 +1,73 @@
+-- `journal::write`: the instant's word, the words of its inputs and those of its outputs, one after the other.
+use borrow.Author.Needs.{needs}
+use native.Mathlib.Omega.{arith}
+use Rattle.store.specs.Flags.{setOf}
+use Rattle.journal.proofs.Put.{instant-length, instant-put}
+use Rattle.journal.proofs.write.Statement.{statement}
+use Rattle.journal.proofs.write.Tie as tie
+
+word-of-requires : tie.Need-word-of-requires
+word-of-requires c κs = search needs
+
+put-word-requires : tie.Need-put-word-requires
+put-word-requires c κs =
+    let a = c .before .before .before .before .before .args in
+    omega (arith, instant-length (a .status) (setOf (a .inputs .now)) (setOf (a .outputs .now)))
+
+put-tokens-requires : tie.Need-put-tokens-requires
+put-tokens-requires c κs =
+    let b = c .before .before .before .before .before .before .before .before .before in
+    let a = b .args in
+    let long = c .before .before .before .put-word .kept .0 in
+    let room = instant-length (a .status) (setOf (a .inputs .now)) (setOf (a .outputs .now)) in
+    (omega arith, (b .pre .1 .0, (b .pre .1 .1 .0, (b .pre .1 .1 .1 .1 .0, omega arith))))
+
+put-tokens-requires-2 : tie.Need-put-tokens-requires-2
+put-tokens-requires-2 c κs =
+    let b = c .before .before .before .before .before .before .before .before .before .before .before .before .before in
+    let a = b .args in
+    let long = c .before .before .before .before .before .before .before .put-word .kept .0 in
+    let same = c .before .before .before .put-tokens .kept .0 in
+    let next = c .before .before .before .put-tokens .ensures .1 in
+    let room = instant-length (a .status) (setOf (a .inputs .now)) (setOf (a .outputs .now)) in
+    (omega arith, (b .pre .1 .0, (b .pre .1 .1 .1 .0, (b .pre .1 .1 .1 .1 .1 .0, omega arith))))
+
+mul-result : tie.Need-mul-result
+mul-result c =
+    let b = c .before .before .before .before .before .before .before .before .before .before .before .before .before .before .before .before in
+    let a = b .args in
+    let middle = c .before .before .before .before .before .before .put-tokens .ensures .1 in
+    let end = c .before .before .put-tokens2 .ensures .1 in
+    let few = instant-length (a .status) (setOf (a .inputs .now)) (setOf (a .outputs .now)) in
+    omega arith
+
+same-length : tie.Need-same-length
+same-length c = search needs
+
+returns : tie.Need-returns
+returns c =
+    let b = c .before .before .before .before .before .before .before .before .before .before .before .before .before .before .before .before in
+    let a = b .args in
+    let word = c .before .before .before .before .before .before .before .before .before .before .before .before .word-of in
+    let first = c .before .before .before .before .before .before .before .before .before .before .put-word in
+    let second = c .before .before .before .before .before .before .put-tokens in
+    let third = c .before .before .put-tokens2 in
+    let middle = second .ensures .1 in
+    let end = third .ensures .1 in (
+      instant-put (a .status) (setOf (a .inputs .now)) (setOf (a .outputs .now)) (a .journal .now) (b .pre .1 .1 .1 .1 .1 .1)
+          (word .result) (second .result) (first .last .0) (second .last .0) (third .last .0)
+          (word .ensures) middle (first .ensures) (second .ensures .0) (third .ensures .0),
+      omega (arith, instant-length (a .status) (setOf (a .inputs .now)) (setOf (a .outputs .now))),
+    )
+
+pub write-spec : {M : Type 1} → statement M
+write-spec =
+    tie.close
+    (tie.spec
+    word-of-requires
+    put-word-requires
+    put-tokens-requires
+    put-tokens-requires-2
+    mul-result
+    same-length
+    returns)
