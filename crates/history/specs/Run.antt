@@ -1,6 +1,7 @@
 -- The instants of a run, one after the other, each from the state that the one before left.
 --     answerIn       what the definition of an instant answers, from the bytes of a state
 --     stopBy         why an instant is not written: 11, the next state would meet 9; 15, its words exceed the bytes left
+--     goesOn         whether it is
 --     stopAt         the same, by the answer
 --     Ran            what a run did: the words of the instants written, the state after them, how many, and why it stopped
 --     runFrom        a run, from a state, with so many journal bytes left
@@ -26,6 +27,11 @@ answerIn score state inputs = answer (decode score) (stateOf state) inputs
 
 abbrev pub stopBy : Bool → ℕ → ℕ → Stop
 stopBy unlawful needed room = cond unlawful Next (cond (leb needed room) Not Room)
+
+abbrev pub goesOn : Stop → Bool
+goesOn Not = true
+goesOn Next = false
+goesOn Room = false
 
 unfoldable pub stopAt : List ℕ → Answer → ℕ → ℕ → Stop
 stopAt score a needed room = stopBy (stateFault (sizes score .agents) (asBytes (after a))) needed room
