@@ -207,8 +207,8 @@ pub fn write(
 fn put_tokens(journal: &mut [u8], from: usize, kind: u32, tokens: usize, set: &[bool]) -> usize
     requires { ⌜ kind < 16 ⌝ }
     requires { ⌜ tokens ≤ 256 ⌝ }
-    requires { ⌜ tokens ≤ length (now set) ⌝ }
     requires { ⌜ ((i : ℕ) → tokens ≤ i → getD (now set) i false ≡ false) ⌝ }
+    requires { ⌜ tokens ≤ length (now set) ⌝ }
     requires { ⌜ 4 * (from + length (setOf (now set))) ≤ length (now journal) ⌝ }
     ensures { λ _. ⌜ now (journal .exit) ≡ take (4 * from) (now (journal .entry)) ++ bytesOf (map (λ t. kind * 2 ^ 28 + t) (setOf (now (set .entry)))) ++ drop (4 * (from + length (setOf (now (set .entry))))) (now (journal .entry)) ⌝ }
     ensures { λ r. ⌜ r ≡ from + length (setOf (now (set .entry))) ⌝ }

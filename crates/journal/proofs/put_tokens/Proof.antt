@@ -37,7 +37,7 @@ word-of-requires c κs = search needs
 room : (c : tie.Then1 Inv-loop μ-loop) → length (kept (c .before .before .before .before .before .before .args .set .now) (c .before .before .before .loop .t)) < length (setOf (c .before .before .before .before .before .before .args .set .now))
 room c =
     let b = c .before .before .before .before .before .before in
-    kept-room (b .args .set .now) (b .args .tokens) (b .pre .1 .1 .1 .0) (c .before .before .before .loop .t) (omega arith) (c .if1 .taken)
+    kept-room (b .args .set .now) (b .args .tokens) (b .pre .1 .1 .0) (c .before .before .before .loop .t) (omega arith) (c .if1 .taken)
 
 put-word-requires : tie.Need-put-word-requires Inv-loop μ-loop
 put-word-requires c κs = omega (arith, room (c .before .before))
@@ -86,7 +86,7 @@ returns c =
     let s = b .args .journal .now in
     let set = b .args .set .now in
     let t : l .t ≡ b .args .tokens = omega arith in
-    let e : kept set (l .t) ≡ setOf set = ap (kept set) t ∙ kept-all set (b .args .tokens) (b .pre .1 .1 .1 .0) in (
+    let e : kept set (l .t) ≡ setOf set = ap (kept set) t ∙ kept-all set (b .args .tokens) (b .pre .1 .1 .0) in (
       l .inv .3
           ∙ ap (λ k. take (4 * from) s ++ bytesOf (listed kind set (l .t)) ++ drop (4 * (from + k)) s) (length-map (kept set (l .t)) (λ u. kind * 2 ^ 28 + u))
           ∙ ap (λ k. take (4 * from) s ++ bytesOf (map (λ u. kind * 2 ^ 28 + u) k) ++ drop (4 * (from + length k)) s) e,

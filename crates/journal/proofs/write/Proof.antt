@@ -20,7 +20,7 @@ put-tokens-requires c κs =
     let a = b .args in
     let long = c .before .before .before .put-word .kept .0 in
     let room = instant-length (a .status) (setOf (a .inputs .now)) (setOf (a .outputs .now)) in
-    (omega arith, (b .pre .1 .0, (b .pre .1 .1 .0, (b .pre .1 .1 .1 .1 .0, omega arith))))
+    (omega arith, (omega arith, (b .pre .1 .1 .1 .1 .0, (omega arith, omega arith))))
 
 put-tokens-requires-2 : tie.Need-put-tokens-requires-2
 put-tokens-requires-2 c κs =
@@ -30,7 +30,7 @@ put-tokens-requires-2 c κs =
     let same = c .before .before .before .put-tokens .kept .0 in
     let next = c .before .before .before .put-tokens .ensures .1 in
     let room = instant-length (a .status) (setOf (a .inputs .now)) (setOf (a .outputs .now)) in
-    (omega arith, (b .pre .1 .0, (b .pre .1 .1 .1 .0, (b .pre .1 .1 .1 .1 .1 .0, omega arith))))
+    (omega arith, (omega arith, (b .pre .1 .1 .1 .1 .1 .0, (omega arith, omega arith))))
 
 mul-result : tie.Need-mul-result
 mul-result c =
