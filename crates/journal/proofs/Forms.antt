@@ -34,17 +34,17 @@ use Rattle.journal.specs.History.{instantWord, instantWords, Rising, non
 abbrev pub wordsOf : ℕ → List ℕ → List ℕ
 wordsOf k ws = keep (λ w. eqb (kind w) k) ws
 
-of-kind : (k w : ℕ) (ws : List ℕ) → kind w ≡ k → wordsOf k (w ∷ ws) ≡ w ∷ wordsOf k ws
+pub of-kind : (k w : ℕ) (ws : List ℕ) → kind w ≡ k → wordsOf k (w ∷ ws) ≡ w ∷ wordsOf k ws
 of-kind k w ws e = rw (eq-eqb (kind w) k e)
 
-of-another : (k w : ℕ) (ws : List ℕ) → (kind w ≡ k → ⊥) → wordsOf k (w ∷ ws) ≡ wordsOf k ws
+pub of-another : (k w : ℕ) (ws : List ℕ) → (kind w ≡ k → ⊥) → wordsOf k (w ∷ ws) ≡ wordsOf k ws
 of-another k w ws n = rw (ne-eqb (kind w) k n)
 
-upTo-instant : (w : ℕ) (ws : List ℕ) → kind w ≡ 12 → upTo (w ∷ ws) ≡ []
+pub upTo-instant : (w : ℕ) (ws : List ℕ) → kind w ≡ 12 → upTo (w ∷ ws) ≡ []
 unfolding upTo
 upTo-instant w ws e = rw (eq-eqb (kind w) 12 e)
 
-upTo-another : (w : ℕ) (ws : List ℕ) → (kind w ≡ 12 → ⊥) → upTo (w ∷ ws) ≡ w ∷ upTo ws
+pub upTo-another : (w : ℕ) (ws : List ℕ) → (kind w ≡ 12 → ⊥) → upTo (w ∷ ws) ≡ w ∷ upTo ws
 unfolding upTo
 upTo-another w ws n = rw (ne-eqb (kind w) 12 n)
 
