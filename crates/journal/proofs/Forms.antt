@@ -1,0 +1,227 @@
+-- What a good form says of the words of a list or journal.
+--     Follows            what a word has that may follow another
+--     good-step          of a good form each word follows the one before
+--     After              a word of an instant, with the input and output tokens up to it that a later one must exceed
+--     Part               the words of an instant after such a word: tokens rise, inputs before outputs
+--     good-part          those up to the next instant word
+--     good-inputs        the input tokens of each instant rise
+use mathlib.Core.Path.{_≡_, refl, sym, ap, ap₂, subst⁻¹, _∙_}
+use mathlib.Core.Bool.{Bool, true, false, cond, _&&_, _||_}
+use mathlib.Core.List.{List, [], _∷_, _++_, map, List·Memᴰ, List·Memᴰ·head, List·Memᴰ·tail}
+use mathlib.Core.Logic.{_⊎_, inl, inr, ⊎-elim}
+use Prim.Native.Nat.{ℕ, zero, suc, _+_, _*_, _%_, _^_, _<_, _≤_}
+use native.Mathlib.Omega.{arith}
+use borrow.Author.Tests.{eqb-true, eq-eqb, ne-eqb, ltb-true}
+use lib.Dec.{eqb, ltb}
+use lib.ListN.{length}
+use Rattle.tcc.specs.Sets.{keep}
+use Rattle.tcc.proofs.Sets.{Within, true-is-false, and-both, on-cons, on-map}
+use Rattle.words.specs.Word.{words, field, kind}
+use Rattle.format.specs.Format.{clear, isWord}
+use Rattle.journal.specs.declared.Form.{Form}
+use Rattle.journal.specs.declared.Form.the-variants.{Good, Bytes, Word}
+use Rattle.journal.specs.Form.{tokenOf, statusOf, isInstant, rises, mayFollow, firstAgainst, formOf}
+use Rattle.journal.specs.Instants.{upTo, instantsIn, tokensOf, inputsIn, inputLists}
+use Rattle.journal.specs.History.{Rising, none, one, more}
+
+-- the words of a kind
+abbrev pub wordsOf : ℕ → List ℕ → List ℕ
+wordsOf k ws = keep (λ w. eqb (kind w) k) ws
+
+of-kind : (k w : ℕ) (ws : List ℕ) → kind w ≡ k → wordsOf k (w ∷ ws) ≡ w ∷ wordsOf k ws
+of-kind k w ws e = rw (eq-eqb (kind w) k e)
+
+of-another : (k w : ℕ) (ws : List ℕ) → (kind w ≡ k → ⊥) → wordsOf k (w ∷ ws) ≡ wordsOf k ws
+of-another k w ws n = rw (ne-eqb (kind w) k n)
+
+upTo-instant : (w : ℕ) (ws : List ℕ) → kind w ≡ 12 → upTo (w ∷ ws) ≡ []
+unfolding upTo
+upTo-instant w ws e = rw (eq-eqb (kind w) 12 e)
+
+upTo-another : (w : ℕ) (ws : List ℕ) → (kind w ≡ 12 → ⊥) → upTo (w ∷ ws) ≡ w ∷ upTo ws
+unfolding upTo
+upTo-another w ws n = rw (ne-eqb (kind w) 12 n)
+
+record HasForm (k named w : ℕ) : Type 0 where
+  kind-is : kind w ≡ k
+  is-clear : clear named w ≡ true
+
+has-form : (k named w : ℕ) → isWord k named w ≡ true → HasForm k named w
+unfolding isWord
+has-form k named w e = let b = and-both (eqb (kind w) k) (clear named w) e in record { kind-is = eqb-true (kind w) k (b .0); is-clear = b .1 }
+
+or-cases : (a b : Bool) → (a || b) ≡ true → (a ≡ true) ⊎ (b ≡ true)
+or-cases true b e = inl refl
+or-cases false b e = inr e
+
+-- of two words of a kind, the later one has the higher token
+record Rises (k last w : ℕ) : Type 0 where
+  kind-is : kind last ≡ k
+  higher : tokenOf last < tokenOf w
+
+rises-so : (k last w : ℕ) → rises k last w ≡ true → Rises k last w
+rises-so k last w e = let b = and-both (eqb (kind last) k) (ltb (tokenOf last) (tokenOf w)) e in record { kind-is = eqb-true (kind last) k (b .0); higher = ltb-true (tokenOf last) (tokenOf w) (b .1) }
+
+data Follows (journal : Bool) (T last w : ℕ) : Type 0 where
+  instant : HasForm 12 2 w → statusOf w < cond journal 3 1 → Follows journal T last w
+  input : HasForm 13 8 w → tokenOf w < T → (kind last ≡ 12) ⊎ Rises 13 last w → Follows journal T last w
+  output : journal ≡ true → HasForm 14 8 w → tokenOf w < T → ((kind last ≡ 12) ⊎ (kind last ≡ 13)) ⊎ Rises 14 last w → Follows journal T last w
+
+module _ (journal : Bool) (T : ℕ) where
+  follows : (last w : ℕ) → mayFollow journal T last w ≡ true → Follows journal T last w
+  unfolding mayFollow
+  follows last w e =
+      ⊎-elim (λ h. ⊎-elim starts brings (or-cases _ _ h)) sends (or-cases _ _ e)
+    where
+      starts : (isWord 12 2 w && ltb (statusOf w) (cond journal 3 1)) ≡ true → Follows journal T last w
+      starts h = let b = and-both (isWord 12 2 w) (ltb (statusOf w) (cond journal 3 1)) h in instant (has-form 12 2 w (b .0)) (ltb-true (statusOf w) (cond journal 3 1) (b .1))
+
+      brings : (isWord 13 8 w && ltb (tokenOf w) T && (isInstant last || rises 13 last w)) ≡ true → Follows journal T last w
+      brings h =
+          let b = and-both (isWord 13 8 w && ltb (tokenOf w) T) (isInstant last || rises 13 last w) h in
+          let a = and-both (isWord 13 8 w) (ltb (tokenOf w) T) (b .0) in
+          input (has-form 13 8 w (a .0)) (ltb-true (tokenOf w) T (a .1))
+          (⊎-elim (λ (i : isInstant last ≡ true). inl (eqb-true (kind last) 12 i)) (λ (r : rises 13 last w ≡ true). inr (rises-so 13 last w r)) (or-cases (isInstant last) (rises 13 last w) (b .1)))
+
+      sends : (journal && isWord 14 8 w && ltb (tokenOf w) T && (isInstant last || eqb (kind last) 13 || rises 14 last w)) ≡ true → Follows journal T last w
+      sends h =
+          let b = and-both (journal && isWord 14 8 w && ltb (tokenOf w) T) (isInstant last || eqb (kind last) 13 || rises 14 last w) h in
+          let a = and-both (journal && isWord 14 8 w) (ltb (tokenOf w) T) (b .0) in
+          let j = and-both journal (isWord 14 8 w) (a .0) in
+          output (j .0) (has-form 14 8 w (j .1)) (ltb-true (tokenOf w) T (a .1))
+          (⊎-elim
+          (λ (s : (isInstant last || eqb (kind last) 13) ≡ true).
+          inl (⊎-elim (λ (i : isInstant last ≡ true). inl (eqb-true (kind last) 12 i)) (λ (r : eqb (kind last) 13 ≡ true). inr (eqb-true (kind last) 13 r)) (or-cases (isInstant last) (eqb (kind last) 13) s)))
+          (λ (r : rises 14 last w ≡ true). inr (rises-so 14 last w r))
+          (or-cases (isInstant last || eqb (kind last) 13) (rises 14 last w) (b .1)))
+
+  good-step : (k last w : ℕ) (ws : List ℕ) → firstAgainst journal T k last (w ∷ ws) ≡ Good → Follows journal T last w × (firstAgainst journal T (suc k) w ws ≡ Good)
+  unfolding firstAgainst
+  good-step k last w ws = go (mayFollow journal T last w) refl
+    where
+      go : (b : Bool) → mayFollow journal T last w ≡ b → cond b (firstAgainst journal T (suc k) w ws) (Word k) ≡ Good → Follows journal T last w × (firstAgainst journal T (suc k) w ws ≡ Good)
+      go true e g = (follows last w e, g)
+      go false e g = absurd (let z : _≡_ {A = ℕ} 0 1 = cc in omega arith)
+
+data After (T last : ℕ) : List ℕ → List ℕ → Type 0 where
+  instant : kind last ≡ 12 → After T last [] []
+  input : kind last ≡ 13 → tokenOf last < T → After T last (tokenOf last ∷ []) []
+  output : kind last ≡ 14 → tokenOf last < T → After T last [] (tokenOf last ∷ [])
+
+record Part (journal : Bool) (T : ℕ) (p q ws : List ℕ) : Type 0 where
+  inputs : Rising T (p ++ map tokenOf (wordsOf 13 ws))
+  outputs : Rising T (q ++ map tokenOf (wordsOf 14 ws))
+  in-order : wordsOf 13 ws ++ wordsOf 14 ws ≡ ws
+  late : (t : ℕ) → q ≡ t ∷ [] → wordsOf 13 ws ≡ []
+  silent : journal ≡ false → wordsOf 14 ws ≡ []
+  cleared : Within (λ w. clear 8 w ≡ true) ws
+
+module _ (journal : Bool) (T : ℕ) where
+  nil-part : {last : ℕ} {p q : List ℕ} → After T last p q → Part journal T p q []
+  nil-part (instant e) = record { inputs = none; outputs = none; in-order = refl; late = λ t z. refl; silent = λ z. refl; cleared = λ w m. elim m [ ] }
+  nil-part (input e h) = record { inputs = one h; outputs = none; in-order = refl; late = λ t z. refl; silent = λ z. refl; cleared = λ w m. elim m [ ] }
+  nil-part (output e h) = record { inputs = none; outputs = one h; in-order = refl; late = λ t z. refl; silent = λ z. refl; cleared = λ w m. elim m [ ] }
+
+  module _ (last w : ℕ) (ws : List ℕ) where
+    -- an input word before words of an instant
+    input-part : {p q : List ℕ} → After T last p q → HasForm 13 8 w → (kind last ≡ 12) ⊎ Rises 13 last w → Part journal T (tokenOf w ∷ []) [] ws → Part journal T p q (w ∷ ws)
+    input-part {p} {q} a f o r =
+        let here : wordsOf 13 (w ∷ ws) ≡ w ∷ wordsOf 13 ws = of-kind 13 w ws (f .kind-is) in
+        let other : wordsOf 14 (w ∷ ws) ≡ wordsOf 14 ws = of-another 14 w ws (λ e. omega (arith, f .kind-is)) in
+        let s = sorted a o in
+        record {
+          inputs = subst⁻¹ (λ l. Rising T (p ++ map tokenOf l)) here (s .0);
+          outputs = subst⁻¹ (λ l. Rising T (q ++ map tokenOf l)) other (subst⁻¹ (λ l. Rising T (l ++ map tokenOf (wordsOf 14 ws))) (s .1) (r .outputs));
+          in-order = ap₂ _++_ here other ∙ ap (λ l. w ∷ l) (r .in-order);
+          late = λ t e. absurd (let z : _≡_ {A = List ℕ} [] (t ∷ []) = sym (s .1) ∙ e in let y : _≡_ {A = ℕ} 0 1 = cc in omega arith);
+          silent = λ e. other ∙ r .silent e;
+          cleared = on-cons (f .is-clear) (r .cleared);
+        }
+      where
+        sorted : {p q : List ℕ} → After T last p q → (kind last ≡ 12) ⊎ Rises 13 last w → Rising T (p ++ map tokenOf (w ∷ wordsOf 13 ws)) × (q ≡ [])
+        sorted (instant e) o = (r .inputs, refl)
+        sorted (input e h) (inl z) = absurd (omega arith)
+        sorted (input e h) (inr s) = (more (s .higher) (r .inputs), refl)
+        sorted (output e h) (inl z) = absurd (omega arith)
+        sorted (output e h) (inr s) = absurd (omega (arith, s .kind-is))
+
+    -- an output word before words of an instant
+    output-part : {p q : List ℕ} → After T last p q → journal ≡ true → HasForm 14 8 w → ((kind last ≡ 12) ⊎ (kind last ≡ 13)) ⊎ Rises 14 last w → Part journal T [] (tokenOf w ∷ []) ws → Part journal T p q (w ∷ ws)
+    output-part {p} {q} a j f o r =
+        let here : wordsOf 14 (w ∷ ws) ≡ w ∷ wordsOf 14 ws = of-kind 14 w ws (f .kind-is) in
+        let nothing : wordsOf 13 ws ≡ [] = r .late (tokenOf w) refl in
+        let other : wordsOf 13 (w ∷ ws) ≡ [] = of-another 13 w ws (λ e. omega (arith, f .kind-is)) ∙ nothing in
+        let s = sorted a o in
+        record {
+          inputs = subst⁻¹ (λ l. Rising T (p ++ map tokenOf l)) other (nil-part a .inputs);
+          outputs = subst⁻¹ (λ l. Rising T (q ++ map tokenOf l)) here s;
+          in-order = ap₂ _++_ other here ∙ ap (λ l. w ∷ l) (ap (λ l. l ++ wordsOf 14 ws) (sym nothing) ∙ r .in-order);
+          late = λ t e. other;
+          silent = λ e. absurd (true-is-false j e);
+          cleared = on-cons (f .is-clear) (r .cleared);
+        }
+      where
+        sorted : {p q : List ℕ} → After T last p q → ((kind last ≡ 12) ⊎ (kind last ≡ 13)) ⊎ Rises 14 last w → Rising T (q ++ map tokenOf (w ∷ wordsOf 14 ws))
+        sorted (instant e) o = r .outputs
+        sorted (input e h) o = r .outputs
+        sorted (output e h) (inl (inl z)) = absurd (omega arith)
+        sorted (output e h) (inl (inr z)) = absurd (omega arith)
+        sorted (output e h) (inr s) = more (s .higher) (r .outputs)
+
+  good-part : (ws : List ℕ) (k last : ℕ) {p q : List ℕ} → After T last p q → firstAgainst journal T k last ws ≡ Good → Part journal T p q (upTo ws)
+  unfolding upTo
+  good-part [] k last a g = nil-part a
+  good-part (w ∷ ws) k last {p} {q} a g = let s = good-step journal T k last w ws g in go (s .0) (λ p q b. good-part ws (suc k) w b (s .1))
+    where
+      go : Follows journal T last w → ((p q : List ℕ) → After T w p q → Part journal T p q (upTo ws)) → Part journal T p q (upTo (w ∷ ws))
+      go (instant f h) rest = subst⁻¹ (Part journal T p q) (upTo-instant w ws (f .kind-is)) (nil-part a)
+      go (input f h o) rest = subst⁻¹ (Part journal T p q) (upTo-another w ws (λ e. omega (arith, f .kind-is))) (input-part last w (upTo ws) a f o (rest _ _ (input (f .kind-is) h)))
+      go (output j f h o) rest = subst⁻¹ (Part journal T p q) (upTo-another w ws (λ e. omega (arith, f .kind-is))) (output-part last w (upTo ws) a j f o (rest _ _ (output (f .kind-is) h)))
+
+  -- each instant is an instant word and its part
+  record Led (ws : List ℕ) : Type 0 where
+    word : ℕ
+    rest : List ℕ
+    is : ws ≡ word ∷ rest
+    form : HasForm 12 2 word
+    status : statusOf word < cond journal 3 1
+    part : Part journal T [] [] rest
+
+  good-led : (ws : List ℕ) (k last : ℕ) → firstAgainst journal T k last ws ≡ Good → Within Led (instantsIn ws)
+  unfolding instantsIn
+  good-led [] k last g = λ x m. elim m [ ]
+  good-led (w ∷ ws) k last g = let s = good-step journal T k last w ws g in go (s .0) (s .1) (good-led ws (suc k) w (s .1))
+    where
+      skip : (kind w ≡ 12 → ⊥) → Within Led (instantsIn ws) → Within Led (instantsIn (w ∷ ws))
+      skip n = subst⁻¹ (Within Led) (rw (ne-eqb (kind w) 12 n))
+
+      go : Follows journal T last w → firstAgainst journal T (suc k) w ws ≡ Good → Within Led (instantsIn ws) → Within Led (instantsIn (w ∷ ws))
+      go (instant f h) g later =
+          subst⁻¹ (Within Led) (rw (eq-eqb (kind w) 12 (f .kind-is)))
+          (on-cons (record { word = w; rest = upTo ws; is = refl; form = f; status = h; part = good-part ws (suc k) w (instant (f .kind-is)) g }) later)
+      go (input f h o) g later = skip (λ e. omega (arith, f .kind-is)) later
+      go (output j f h o) g later = skip (λ e. omega (arith, f .kind-is)) later
+
+-- the form of bytes is that of their words
+record GoodBytes (journal : Bool) (T : ℕ) (bytes : List ℕ) : Type 0 where
+  whole : length bytes % 4 ≡ 0
+  words-good : firstAgainst journal T 0 0 (words bytes) ≡ Good
+
+good-bytes : (journal : Bool) (T : ℕ) (bytes : List ℕ) → formOf journal T bytes ≡ Good → GoodBytes journal T bytes
+unfolding formOf
+good-bytes journal T bytes = go (eqb (length bytes % 4) 0) refl
+  where
+    go : (b : Bool) → eqb (length bytes % 4) 0 ≡ b → cond b (firstAgainst journal T 0 0 (words bytes)) Bytes ≡ Good → GoodBytes journal T bytes
+    go true e g = record { whole = eqb-true (length bytes % 4) 0 e; words-good = g }
+    go false e g = absurd (let z : _≡_ {A = ℕ} 0 1 = cc in omega arith)
+
+led-inputs : {journal : Bool} {T : ℕ} {ws : List ℕ} → Led journal T ws → Rising T (inputsIn ws)
+unfolding tokensOf
+led-inputs {journal} {T} {ws} l =
+    subst⁻¹ (λ x. Rising T (inputsIn x)) (l .is)
+    (subst⁻¹ (λ x. Rising T (map tokenOf x)) (of-another 13 (l .word) (l .rest) (λ e. omega (arith, l .form .kind-is))) (l .part .inputs))
+
+pub good-inputs : (journal : Bool) (T : ℕ) (bytes : List ℕ) → formOf journal T bytes ≡ Good → (l : List ℕ) → List·Memᴰ l (inputLists bytes) → Rising T l
+unfolding inputLists
+good-inputs journal T bytes g =
+    on-map (Rising T) inputsIn (instantsIn (words bytes)) (λ ws m. led-inputs (good-led journal T (words bytes) 0 0 (good-bytes journal T bytes g .words-good) ws m))
