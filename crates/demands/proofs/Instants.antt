@@ -8,17 +8,20 @@
 --     settled-instant      where all that is lent is right, a call that meets the contract is accepted
 --     instant-inside       the agents and tokens of an instant are the score's
 --     after-faultless      the state after an instant has no fault
+--     after-round          it stands for the state that the definition gives
 --     instant-shown        a journal shows its status, inputs and output
-use mathlib.Core.Path.{_≡_, refl, sym, ap, _∙_}
-use mathlib.Core.Bool.{false}
+use mathlib.Core.Path.{_≡_, refl, sym, ap, subst⁻¹, _∙_}
+use mathlib.Core.Bool.{Bool, true, false, cond}
 use mathlib.Core.List.{List}
 use Prim.Native.Nat.{ℕ}
 use native.Mathlib.Omega.{arith}
-use Rattle.tcc.specs.Instant.{output, after}
+use lib.Dec.{eqb}
+use Rattle.tcc.specs.Instant.{output, running, aborted, after}
 use Rattle.format.specs.Decode.{sizes, decode}
 use Rattle.scorefile.specs.Check as check
 use Rattle.lent.specs.Maps.{tokensIn, mapOf}
-use Rattle.lent.specs.States.{stateFault, asBytes}
+use Rattle.lent.specs.States.{stateFault, stateOf, asBytes, LawfulState, SameState}
+use Rattle.lent.proofs.Round.{state-round}
 use Rattle.instant.specs.InstantCall.{Lent, Exit, exit}
 use Rattle.instant.proofs.Written.{Inside}
 use Rattle.journal.specs.History.{instantWords, entry}
@@ -89,6 +92,16 @@ module _ {score : List ℕ} {p : Answered} (h : IsInstant score p) where
 
   pub after-faultless : stateFault (sizes score .agents) (p .after) ≡ false
   after-faultless = ap (λ q. stateFault (sizes score .agents) (q .after)) (h .is) ∙ next-faultless score (h .accepted) (p .before) (h .faultless) (p .inputs) (h .known)
+
+  pub after-round : SameState (stateOf (p .after)) (after (given score (p .before) (p .inputs)))
+  unfolding LawfulState
+  after-round =
+      let a = given score (p .before) (p .inputs) in
+      subst⁻¹ (λ (q : Answered). SameState (stateOf (q .after)) (after a)) (h .is) (state-round (after a) (go (eqb (a .status) 2)))
+    where
+      go : (b : Bool) → LawfulState 1024 (cond b aborted (running (given score (p .before) (p .inputs) .awake)))
+      go true = tt
+      go false = λ j m. omega (arith, instant-inside .agents j m, lawful score (h .accepted) .most-agents)
 
   pub instant-shown : instantWords (p .status) (p .inputs) (tokensIn (p .output)) ≡ entry (decode score) (p .inputs) (given score (p .before) (p .inputs))
   instant-shown =
