@@ -1,29 +1,30 @@
 -- The journal of a history.
 --     answer-status      a status is 0, 1 or 2
+--     entry-same         the same answers have the same words
 --     entry-formed, entry-inputs     the words of an instant are well formed and give its inputs back
 --     entries            the words of each instant of a history
 --     history-joined     one after the other they are the history
 --     history-good       its bytes have a good form
 --     history-words      its words are the words of its bytes
 --     history-instants   the instants in them are its entries
-use mathlib.Core.Path.{_≡_, refl, ap, subst⁻¹, _∙_}
+use mathlib.Core.Path.{_≡_, refl, ap, ap₂, subst⁻¹, _∙_}
 use mathlib.Core.Bool.{Bool, true, false, cond}
 use mathlib.Core.List.{List, [], _∷_, _++_, flatten, List·Memᴰ, List·Memᴰ·head, List·Memᴰ·tail}
-use Prim.Native.Nat.{ℕ, suc, _<_}
+use Prim.Native.Nat.{ℕ, _<_}
 use native.Mathlib.Omega.{arith}
-use lib.ListN.{length}
 use Rattle.tcc.specs.Sets.{any, has}
 use Rattle.tcc.specs.Score.{Score, agentAt}
 use Rattle.tcc.specs.Lawful.{Lawful}
 use Rattle.tcc.specs.Instant.{Answer, abortedAnswer, quietAnswer, liveIn, heldIn, isAbort, reached, instant, State, running, aborted, output, answer, after}
 use Rattle.tcc.proofs.Sets.{Within, true-is-false, on-cons}
+use Rattle.tcc.proofs.SameAnswer.{SameAnswer}
 use Rattle.words.specs.Word.{words}
 use Rattle.lent.specs.Bits.{bytesOf}
 use Rattle.journal.specs.declared.Form.the-variants.{Good}
 use Rattle.journal.specs.Form.{formOf}
 use Rattle.journal.specs.Instants.{instantsIn, inputsIn}
-use Rattle.journal.specs.History.{entry, history, Rising}
-use Rattle.journal.proofs.Rising.{output-rising}
+use Rattle.journal.specs.History.{instantWords, entry, history, Rising}
+use Rattle.journal.proofs.Rising.{output-rising, output-same}
 use Rattle.journal.proofs.Forms.{WellFormed}
 use Rattle.journal.proofs.Formed.{words-inputs, words-formed, formed-words, formed-good, formed-instants}
 
@@ -41,6 +42,9 @@ answer-status sc (running agents) inputs =
     let facts = reached sc agents inputs in
     either-status sc (any (λ i. isAbort (agentAt sc i)) (liveIn facts)) (heldIn facts) (liveIn facts)
 answer-status sc aborted inputs = omega arith
+
+pub entry-same : (sc : Score) (inputs : List ℕ) {a b : Answer} → SameAnswer a b → entry sc inputs a ≡ entry sc inputs b
+entry-same sc inputs {a} {b} same = ap₂ (λ s o. instantWords s inputs o) (same .status) (ap (λ s. output sc s (a .store)) (same .status) ∙ output-same sc (b .status) (same .store))
 
 unfoldable pub entries : Score → State → List (List ℕ) → List (List ℕ)
 entries sc st [] = []
