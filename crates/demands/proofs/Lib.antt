@@ -4,3 +4,5 @@ pub mod Instants
 pub mod Linked
 pub mod RunExit
 pub mod Runs
+pub mod JournalChecks
+pub mod JournalExact
