@@ -3,10 +3,10 @@
 --     check-reply          with a scratch of its length, the reply is by the journal's form, then instant by instant
 --     history-accepted     a history's journal is accepted, with its instants
 --     accepted-history     a journal that is accepted is a history's
-use mathlib.Core.Path.{_≡_, refl, sym, ap, ap₂, subst, subst⁻¹, _∙_}
+use mathlib.Core.Path.{_≡_, refl, sym, ap, subst, subst⁻¹, _∙_}
 use mathlib.Core.Bool.{Bool, true, false, cond}
 use mathlib.Core.List.{List, [], _∷_, map, flatten, List·Memᴰ·not-nil}
-use Prim.Native.Nat.{ℕ, suc, _+_}
+use Prim.Native.Nat.{ℕ, suc}
 use native.Mathlib.Omega.{arith}
 use lib.ListN.{length, length-map}
 use Rattle.tcc.specs.Instant.{startState, after}
@@ -23,7 +23,7 @@ use Rattle.journal.specs.declared.Form.the-variants.{Good, Bytes, Word}
 use Rattle.journal.specs.Form.{formOf}
 use Rattle.journal.specs.Instants.{instantsIn, inputsIn}
 use Rattle.journal.specs.History.{entry, history, Rising, IsHistory}
-use Rattle.journal.proofs.Forms.{WellFormed, good-whole, good-instants, good-words, bytes-words}
+use Rattle.journal.proofs.Forms.{good-whole, good-instants, good-words, bytes-words}
 use Rattle.journal.proofs.Histories.{history-joined, history-good, history-instants}
 use Rattle.history.specs.declared.Reply.{Reply}
 use Rattle.history.specs.declared.Reply.the-variants.{Unlawful, Differs, Accepted}

@@ -4,9 +4,9 @@
 --     run-count          the list has as many instants
 --     runs-accepted      so the check accepts it
 --     journal-exact      both: the theorem
-use mathlib.Core.Path.{_≡_, refl, sym, ap, subst, subst⁻¹, _∙_}
+use mathlib.Core.Path.{_≡_, refl, sym, ap, subst⁻¹, _∙_}
 use mathlib.Core.List.{List, _++_}
-use Prim.Native.Nat.{ℕ, _*_, _≤_}
+use Prim.Native.Nat.{ℕ, _*_}
 use native.Mathlib.Omega.{arith}
 use lib.ListN.{length, take, drop}
 use lib.Seq.{length-take-le}
@@ -27,7 +27,6 @@ use Rattle.score.proofs.ScoreJournalCheck.{read}
 use Rattle.demands.specs.Calls.{written}
 use Rattle.demands.specs.JournalExact.{Exactly, startHistory, RunsAccepted, JournalExact}
 use Rattle.demands.proofs.Accepted.{lawful, agents-counted}
-use Rattle.demands.proofs.RunExit.{ranOn}
 use Rattle.demands.proofs.Runs.{Call, refused, ran, called, taken-rises}
 use Rattle.demands.proofs.JournalChecks.{start-stands, history-accepted, accepted-history}
 
@@ -36,8 +35,8 @@ exactly score journal before after answer n accepted long c =
     let r = read score journal before after answer c in (
       λ e. accepted-history score accepted journal before long (c .lent) n (sym (r .number) ∙ e .0) (sym (r .value) ∙ e .1),
       λ h.
-        let e = history-accepted score accepted journal before long n h in
-        (r .number ∙ ap (λ x. numberOf (ofReply x)) e, r .value ∙ ap (λ x. valueOf (ofReply x)) e),
+          let e = history-accepted score accepted journal before long n h in
+          (r .number ∙ ap (λ x. numberOf (ofReply x)) e, r .value ∙ ap (λ x. valueOf (ofReply x)) e),
     )
 
 module _ (score inputs : List ℕ) (before after : Lent) (answer : ℕ) (c : ScoreRun score inputs before after answer) where
@@ -66,8 +65,8 @@ pub runs-accepted : RunsAccepted
 runs-accepted score inputs before after answer accepted at c = (
   run-writes score inputs before after answer c accepted at,
   λ scratch scratch′ checked long d.
-    exactly score (bytesOf (startHistory score inputs (written answer))) scratch scratch′ checked (written answer) accepted long d .1
-    (record { inputs = take (written answer) (inputLists inputs); rising = taken-rises c; instants = run-count score inputs before after answer c; is = refl }),
+      exactly score (bytesOf (startHistory score inputs (written answer))) scratch scratch′ checked (written answer) accepted long d .1
+      (record { inputs = take (written answer) (inputLists inputs); rising = taken-rises c; instants = run-count score inputs before after answer c; is = refl }),
 )
 
 pub journal-exact : JournalExact

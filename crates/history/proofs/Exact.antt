@@ -7,15 +7,14 @@
 --     run-history        a run writes the history of the instants that it writes
 --     check-entries      a journal check accepts the words of each instant of a history
 --     check-exact        and nothing else
-use mathlib.Core.Path.{_≡_, refl, sym, ap, ap₂, subst, _∙_}
-use mathlib.Core.Bool.{Bool, true, false, cond, _&&_}
-use mathlib.Core.List.{List, [], _∷_, _++_, map, List·Memᴰ, List·Memᴰ·head, List·Memᴰ·tail}
+use mathlib.Core.Path.{_≡_, refl, ap, ap₂, subst, _∙_}
+use mathlib.Core.Bool.{Bool, true, false, cond}
+use mathlib.Core.List.{List, [], _∷_, _++_, map, List·Memᴰ·head, List·Memᴰ·tail}
 use Prim.Native.Nat.{ℕ, suc, _+_, _*_, _-_, _≤_}
 use native.Mathlib.Omega.{arith}
 use borrow.Author.Tests.{eqb-true, eq-eqb}
 use lib.Dec.{eqb}
 use lib.ListN.{length, take}
-use Rattle.tcc.specs.Score.{Score}
 use Rattle.tcc.specs.Lawful.{Lawful}
 use Rattle.tcc.specs.Instant.{Answer, State, running, aborted, answer, after}
 use Rattle.tcc.proofs.Sets.{Within, true-is-false, and-both, both-and, same-refl}
@@ -24,8 +23,8 @@ use Rattle.format.specs.Decode.{sizes, decode}
 use Rattle.format.proofs.Decode.{sizes-few}
 use Rattle.lent.specs.States.{stateFault, stateOf, asBytes, LawfulState, SameState}
 use Rattle.lent.proofs.Round.{state-round, asBytes-same, lawful-bytes}
-use Rattle.lent.proofs.SameState.{state-trans, answer-same, after-same}
-use Rattle.instant.proofs.Written.{Inside, answer-inside}
+use Rattle.lent.proofs.SameState.{answer-same, after-same}
+use Rattle.instant.proofs.Written.{answer-inside, after-lawful}
 use Rattle.journal.specs.Instants.{inputsIn}
 use Rattle.journal.specs.History.{entry, history, Rising}
 use Rattle.journal.proofs.Rising.{rising-below}
@@ -33,7 +32,7 @@ use Rattle.journal.proofs.Histories.{entry-same, entry-inputs, entries}
 use Rattle.history.specs.declared.Stop.{Stop}
 use Rattle.history.specs.declared.Stop.the-variants.{Not, Next, Room}
 use Rattle.history.specs.declared.Reply.{Reply}
-use Rattle.history.specs.declared.Reply.the-variants.{Unlawful, Differs, Accepted}
+use Rattle.history.specs.declared.Reply.the-variants.{Differs, Accepted}
 use Rattle.history.specs.Run.{answerIn, stopAt, Ran, unlessStopped, runFrom, same, checkFrom}
 
 same-itself : (ws : List ℕ) → same ws ws ≡ true
@@ -50,14 +49,6 @@ lawful-more : (n k : ℕ) (st : State) → n ≤ k → LawfulState n st → Lawf
 unfolding LawfulState
 lawful-more n k (running l) h f = λ i m. omega (arith, f i m)
 lawful-more n k aborted h f = tt
-
-after-lawful : (sc : Score) (a : Answer) → Inside sc a → LawfulState (length (sc .agents)) (after a)
-unfolding LawfulState
-after-lawful sc a i = go (eqb (a .status) 2)
-  where
-    go : (b : Bool) → LawfulState (length (sc .agents)) (cond b aborted (running (a .awake)))
-    go true = tt
-    go false = i .agents
 
 module _ (score : List ℕ) (law : Lawful (decode score)) (counted : length (decode score .agents) ≡ sizes score .agents) where
   pub record Stands (state : List ℕ) (st : State) : Type 0 where
@@ -80,7 +71,7 @@ module _ (score : List ℕ) (law : Lawful (decode score)) (counted : length (dec
 
     module _ (rising : Rising (decode score .tokens) inputs) where
       next-lawful : LawfulState (length (decode score .agents)) (after (answer (decode score) st inputs))
-      next-lawful = after-lawful (decode score) (answer (decode score) st inputs) (answer-inside (decode score) st inputs law (stands .lawful) (rising-below rising))
+      next-lawful = after-lawful (decode score) (answer (decode score) st inputs) (length (decode score .agents)) (omega arith) (answer-inside (decode score) st inputs law (stands .lawful) (rising-below rising))
 
       pub instant-stands : Stands (asBytes (after (answerIn score state inputs))) (after (answer (decode score) st inputs))
       instant-stands = rw after-bytes (written-stands (after (answer (decode score) st inputs)) next-lawful)

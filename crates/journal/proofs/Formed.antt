@@ -5,26 +5,24 @@
 --     formed-words       they are the words of their bytes
 --     formed-instants    and the instants in them are those
 --     form-exact         a form is good exactly if bytes are whole words, and these well-formed words one after the other
-use mathlib.Core.Path.{_≡_, refl, sym, ap, ap₂, subst, subst⁻¹, _∙_}
-use mathlib.Core.Bool.{Bool, true, false, cond, _&&_, _||_}
-use mathlib.Core.List.{List, [], _∷_, _++_, map, flatten, append-assoc, append-nil, List·Memᴰ, List·Memᴰ·head, List·Memᴰ·tail, List·Memᴰ·not-nil}
+use mathlib.Core.Path.{_≡_, refl, sym, ap, ap₂, subst⁻¹, _∙_}
+use mathlib.Core.Bool.{Bool, true, false, cond, _||_}
+use mathlib.Core.List.{List, [], _∷_, _++_, map, flatten, append-assoc, append-nil, List·Memᴰ, List·Memᴰ·head, List·Memᴰ·tail}
 use Prim.Native.Nat.{ℕ, suc, _+_, _*_, _%_, _^_, _<_, _≤_}
 use native.Mathlib.Omega.{arith}
 use borrow.Author.Tests.{eq-eqb, ne-eqb, lt-ltb}
-use lib.Dec.{eqb, ltb}
+use lib.Dec.{eqb}
 use lib.ListN.{length, getD}
-use Rattle.tcc.specs.Sets.{keep}
-use Rattle.tcc.proofs.Sets.{Within, true-is-false, on-cons, on-append, on-map}
+use Rattle.tcc.proofs.Sets.{Within, on-cons, on-append, on-map}
 use Rattle.words.specs.Word.{words, field, kind}
 use Rattle.format.specs.Format.{isWord}
 use Rattle.lent.specs.Bits.{bytesOf}
 use Rattle.lent.proofs.Bytes.{bytesOf-length}
 use Rattle.lent.proofs.Round.{words-bytes}
-use Rattle.journal.specs.declared.Form.{Form}
-use Rattle.journal.specs.declared.Form.the-variants.{Good, Bytes, Word}
+use Rattle.journal.specs.declared.Form.the-variants.{Good}
 use Rattle.journal.specs.Form.{tokenOf, statusOf, isInstant, rises, mayFollow, firstAgainst, formOf}
 use Rattle.journal.specs.Instants.{upTo, instantsIn, tokensOf, inputsIn}
-use Rattle.journal.specs.History.{instantWord, inputWord, outputWord, instantWords, Rising, none, one, more}
+use Rattle.journal.specs.History.{instantWord, inputWord, outputWord, instantWords, Rising, one, more}
 use Rattle.journal.proofs.Rising.{rising-below}
 use Rattle.journal.proofs.Forms.{wordsOf, of-another, upTo-instant, upTo-another, WellFormed, good-whole, good-words, good-instants}
 

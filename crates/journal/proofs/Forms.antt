@@ -24,7 +24,6 @@ use Rattle.tcc.proofs.Sets.{Within, true-is-false, and-both, on-cons, on-map, o
 use Rattle.words.specs.Word.{joined, words, field, kind}
 use Rattle.format.specs.Format.{clear, isWord}
 use Rattle.lent.specs.Bits.{bytesOf}
-use Rattle.journal.specs.declared.Form.{Form}
 use Rattle.journal.specs.declared.Form.the-variants.{Good, Bytes, Word}
 use Rattle.journal.specs.Form.{tokenOf, statusOf, isInstant, rises, mayFollow, firstAgainst, formOf}
 use Rattle.journal.specs.Instants.{upTo, instantsIn, tokensOf, inputsIn, inputLists}
