@@ -4,5 +4,13 @@ pub mod Instants
 pub mod Linked
 pub mod RunExit
 pub mod Runs
+pub mod Turns
+pub mod Ends
+pub mod Chained
+pub mod Determinacy
+pub mod Operational
+pub mod Corollaries
+pub mod NotEmpty
+pub mod NoEleven
 pub mod JournalChecks
 pub mod JournalExact
