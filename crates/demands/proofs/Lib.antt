@@ -13,4 +13,5 @@ pub mod Corollaries
 pub mod NotEmpty
 pub mod NoEleven
 pub mod JournalChecks
+pub mod JournalRuns
 pub mod JournalExact
