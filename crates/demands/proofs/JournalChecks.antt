@@ -3,7 +3,7 @@
 --     check-reply          with a scratch of its length, the reply is by the journal's form, then instant by instant
 --     history-accepted     a history's journal is accepted, with its instants
 --     accepted-history     a journal that is accepted is a history's
-use mathlib.Core.Path.{_≡_, refl, sym, ap, subst, subst⁻¹, _∙_}
+use mathlib.Core.Path.{_≡_, refl, sym, ap, ap₂, subst⁻¹, _∙_}
 use mathlib.Core.Bool.{Bool, true, false, cond}
 use mathlib.Core.List.{List, [], _∷_, map, flatten, List·Memᴰ·not-nil}
 use Prim.Native.Nat.{ℕ, suc}
@@ -22,7 +22,7 @@ use Rattle.journal.specs.declared.Form.{Form}
 use Rattle.journal.specs.declared.Form.the-variants.{Good, Bytes, Word}
 use Rattle.journal.specs.Form.{formOf}
 use Rattle.journal.specs.Instants.{instantsIn, inputsIn}
-use Rattle.journal.specs.History.{entry, history, Rising, IsHistory}
+use Rattle.journal.specs.History.{entry, Rising, IsHistory}
 use Rattle.journal.proofs.Forms.{good-whole, good-instants, good-words, bytes-words}
 use Rattle.journal.proofs.Histories.{history-joined, history-good, history-instants}
 use Rattle.history.specs.declared.Reply.{Reply}
@@ -73,7 +73,8 @@ module _ (score : List ℕ) (accepted : check.numberOf (check.verdict score) ≡
     history-accepted n h =
         let sc = decode score in
         let law = lawful score accepted in
-        let good : formOf true (sizes score .tokens) journal ≡ Good = subst⁻¹ (λ x. formOf true (sizes score .tokens) x ≡ Good) (h .is) (subst (λ t. formOf true t (bytesOf (history sc (startState sc) (h .inputs))) ≡ Good) (decode-tokens score) (history-good sc law (startState sc) (h .inputs) (h .rising))) in
+        let good : formOf true (sizes score .tokens) journal ≡ Good =
+        ap₂ (formOf true) (sym (decode-tokens score)) (h .is) ∙ history-good sc law (startState sc) (h .inputs) (h .rising) in
         let read = ap (λ x. instantsIn (words x)) (h .is) ∙ history-instants sc law (startState sc) (h .inputs) (h .rising) in
         check-reply
         ∙ ap (λ f. byForm f scratch checked .reply) good
@@ -101,7 +102,8 @@ module _ (score : List ℕ) (accepted : check.numberOf (check.verdict score) ≡
                   ∙ ap bytesOf (good-words true (sizes score .tokens) journal g ∙ ap flatten (x .0) ∙ sym (history-joined sc (startState sc) (map inputsIn instants)));
             }
 
-        go : (f : Form) → formOf true (sizes score .tokens) journal ≡ f → numberOf (ofReply (byForm f scratch checked .reply)) ≡ 0 → valueOf (ofReply (byForm f scratch checked .reply)) ≡ n → IsHistory (decode score) (startState (decode score)) journal n
+        go : (f : Form) → formOf true (sizes score .tokens) journal ≡ f →
+            numberOf (ofReply (byForm f scratch checked .reply)) ≡ 0 → valueOf (ofReply (byForm f scratch checked .reply)) ≡ n → IsHistory (decode score) (startState (decode score)) journal n
         go Good g z v = is-history g (zero-accepted score (asBytes (startState (decode score))) 0 (instantsIn (words journal)) z ∙ ap Accepted v)
         go Bytes g z v = absurd (omega arith)
         go (Word k) g z v = absurd (omega arith)

@@ -196,7 +196,8 @@ flatten-within (e ∷ es) h = on-append e (h e (List·Memᴰ·head refl)) (flatt
 
 module _ (journal : Bool) (T : ℕ) (few : T ≤ 256) where
   -- what holds of every word with a small token holds of those after the instant word
-  on-tokens : (P : ℕ → Type 0) {inputs outputs : List ℕ} → ((t : ℕ) → t < 2 ^ 8 → P (inputWord t)) → ((t : ℕ) → t < 2 ^ 8 → P (outputWord t)) → Rising T inputs → Rising T outputs → Within P (map inputWord inputs ++ map outputWord outputs)
+  on-tokens : (P : ℕ → Type 0) {inputs outputs : List ℕ} → ((t : ℕ) → t < 2 ^ 8 → P (inputWord t)) → ((t : ℕ) → t < 2 ^ 8 → P (outputWord t)) →
+      Rising T inputs → Rising T outputs → Within P (map inputWord inputs ++ map outputWord outputs)
   on-tokens P {inputs} {outputs} f g hi ho =
       on-append (map inputWord inputs) (on-map P inputWord inputs (λ t m. f t (small T few hi t m))) (on-map P outputWord outputs (λ t m. g t (small T few ho t m)))
 

@@ -1,4 +1,6 @@
 -- What a good form says of the words of a list or journal.
+--     wordsOf            the words of a kind; of-kind, of-another, one word more
+--     upTo-instant, upTo-another     one word more before the next instant word
 --     Follows            what a word has that may follow another
 --     good-step          of a good form each word follows the one before
 --     After              a word of an instant, with the input and output tokens up to it that a later one must exceed
@@ -7,6 +9,7 @@
 --     good-inputs        the input tokens of each instant rise
 --     WellFormed         the words of one instant, as the form asks
 --     good-instants      those of each instant of a good form
+--     good-whole         a good form has whole words
 --     good-words         the instants of a good form, one after the other, are its words
 --     bytes-words        bytes that are whole words are the bytes of their words
 use mathlib.Core.Path.{_≡_, refl, sym, ap, ap₂, subst⁻¹, _∙_}
@@ -29,7 +32,6 @@ use Rattle.journal.specs.Form.{tokenOf, statusOf, isInstant, rises, mayF
 use Rattle.journal.specs.Instants.{upTo, instantsIn, tokensOf, inputsIn, inputLists}
 use Rattle.journal.specs.History.{instantWord, instantWords, Rising, none, one, more}
 
--- the words of a kind
 abbrev pub wordsOf : ℕ → List ℕ → List ℕ
 wordsOf k ws = keep (λ w. eqb (kind w) k) ws
 
