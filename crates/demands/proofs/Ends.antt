@@ -24,6 +24,7 @@ use Rattle.words.specs.Word.{wordAt}
 use Rattle.lent.specs.Maps.{tokensIn, mapOf}
 use Rattle.lent.specs.States.{abortedWord, agentsIn, stateOf, asBytes, SameState}
 use Rattle.lent.proofs.Round.{asBytes-same, mapOf-same, map-round}
+use Rattle.lent.proofs.SameState.{state-running, state-aborted}
 use Rattle.instant.proofs.Written.{Inside}
 use Rattle.journal.specs.History as journal
 use Rattle.journal.proofs.Rising.{rising-map, output-same}
@@ -67,19 +68,6 @@ map-back l within = same-trans (map-round l) (λ t. (
   λ m. on-keep {P = λ u. List·Memᴰ u l} (λ u. ltb u 256) l (λ u k p. k) t m,
   λ m. keep-kept (λ u. ltb u 256) m (lt-ltb t 256 (within t m)),
 ))
-
-state-running : (s agents : List ℕ) → SameState (stateOf s) (running agents) → Running s × Same (agentsIn s) agents
-unfolding stateOf SameState
-state-running s agents = go (eqb (wordAt s 0) abortedWord)
-  where
-    go : (b : Bool) → SameState (cond b state.aborted (running (agentsIn s))) (running agents) → (cond b state.aborted (running (agentsIn s)) ≡ running (agentsIn s)) × Same (agentsIn s) agents
-    go true h = absurd h
-    go false h = (refl, h)
-
-state-aborted : (st : State) → SameState st state.aborted → st ≡ state.aborted
-unfolding SameState
-state-aborted (running l) h = absurd h
-state-aborted state.aborted h = refl
 
 module _ {score : List ℕ} {p : Answered} (h : IsInstant score p) where
   abbrev now : Answer

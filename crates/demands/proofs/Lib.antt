@@ -12,3 +12,4 @@ pub mod Operational
 pub mod Corollaries
 pub mod NotEmpty
 pub mod NoEleven
+pub mod Consequences
