@@ -6,8 +6,8 @@
 --     told-last            an order that tells an input token last ends as any other, with that token in the store
 --     any-agents           the first state may have any set of agents
 --     unreached-next       a `next` awake there, which no procedure need reach, leaves its body awake
-use mathlib.Core.Path.{_≡_, refl, sym, ap, ap₂, subst, subst⁻¹, _∙_}
-use mathlib.Core.List.{List, [], _∷_, _++_, map, append-nil, List·Memᴰ, List·Memᴰ·head, List·Memᴰ·cases-cons, List·Memᴰ·append-cases, Memᴰ·append-left, Memᴰ·append-right}
+use mathlib.Core.Path.{_≡_, refl, sym, ap, subst, _∙_}
+use mathlib.Core.List.{List, [], _∷_, _++_, map, List·Memᴰ, List·Memᴰ·head, List·Memᴰ·cases-cons, List·Memᴰ·append-cases, Memᴰ·append-left, Memᴰ·append-right}
 use mathlib.Core.Logic.{⊎-elim}
 use Prim.Native.Nat.{ℕ, _<_, _≤_}
 use native.Mathlib.Omega.{arith}
@@ -20,11 +20,11 @@ use Rattle.tcc.specs.Weight.{IsWeight, total}
 use Rattle.tcc.specs.Instant.{running}
 use Rattle.tcc.specs.Chain.{Chain, none, then}
 use Rattle.tcc.specs.declared.Agent.the-variants.{Next}
-use Rattle.tcc.proofs.Sets.{on-cons, map-member, same-refl, same-sym, same-trans}
+use Rattle.tcc.proofs.Sets.{map-member, same-refl, same-sym, same-trans}
 use Rattle.tcc.proofs.Order.{Done, order-ran}
 use Rattle.format.specs.Decode.{decode}
 use Rattle.lent.specs.Maps.{tokensIn}
-use Rattle.lent.specs.States.{agentsIn, stateOf, asBytes, LawfulState, SameState}
+use Rattle.lent.specs.States.{agentsIn, asBytes, LawfulState}
 use Rattle.lent.proofs.Round.{state-round}
 use Rattle.lent.proofs.SameState.{state-running}
 use Rattle.instant.specs.InstantCall.{Lent}
@@ -66,20 +66,20 @@ module _ (d : Determinacy) (score : List ℕ) (w : ℕ → ℕ) (is : IsWeight (
   module _ {first last : List ℕ} {made : List Call} (runs : Running first) (turn : InTurn score first made last) where
     -- "The first order starts with one or more copies of each agent"; "each later one with the multiset that a finished
     -- order of the instant before left awake"
-    two-copies : (p q : Answered) (more : List Answered) → Answers score made (p ∷ q ∷ more) →
+    pub two-copies : (p q : Answered) (more : List Answered) → Answers score made (p ∷ q ∷ more) →
         {s s′ : List ℕ} {steps l : List Item} → Closes (decode score) [] s → Order (decode score) (start (agentsIn first ++ agentsIn first) (p .inputs)) s steps (left l s′) → Quiet (decode score) l s′ →
         AtInstant (decode score) w (awakeNext (decode score) l) q
     two-copies p q more answers c o quiet = d score w first last made (p ∷ q ∷ more) runs is turn answers .orders (p ∷ []) more q refl (agentsIn first ++ agentsIn first) _ (twice-same (agentsIn first)) (then c o quiet none)
 
     -- "An order may break off anywhere"; "Its weight is summed over all copies and input tokens that it starts with"
-    broken-off : (q p : Answered) (earlier later : List Answered) → Answers score made (q ∷ earlier ++ p ∷ later) →
+    pub broken-off : (q p : Answered) (earlier later : List Answered) → Answers score made (q ∷ earlier ++ p ∷ later) →
         {awake : List ℕ} → Chain (decode score) (agentsIn first) (map (λ r. r .inputs) (q ∷ earlier)) awake →
         {s s′ : List ℕ} {steps l : List Item} → Closes (decode score) [] s → Order (decode score) (start awake (p .inputs)) s steps (left l s′) →
         length steps ≤ total w awake (p .inputs)
     broken-off q p earlier later answers chain c o = d score w first last made (q ∷ earlier ++ p ∷ later) runs is turn answers .orders (q ∷ earlier) later p refl (agentsIn first) _ (same-refl (agentsIn first)) chain .bounded _ _ _ c o
 
     -- "Each step picks any one copy": an input's tell may wait until all else is reduced
-    told-last : (p : Answered) (more : List Answered) → Answers score made (p ∷ more) →
+    pub told-last : (p : Answered) (more : List Answered) → Answers score made (p ∷ more) →
         {t : ℕ} {s s′ : List ℕ} (steps : List Item) {l : List Item} → Closes (decode score) [] s → Order (decode score) (start (agentsIn first) (p .inputs)) s (steps ++ (input t ∷ [])) (left l s′) → Quiet (decode score) l s′ →
         QuietLike (decode score) l s′ p × List·Memᴰ t (tokensIn (p .store))
     told-last p more answers {t} {s} {s′} steps {l} c o quiet =
@@ -87,7 +87,7 @@ module _ (d : Determinacy) (score : List ℕ) (w : ℕ → ℕ) (is : IsWeight (
         (like, like .store t .0 (order-ran o .did (input t) (Memᴰ·append-right steps (List·Memᴰ·head refl))))
 
     -- "Any set of the score's agents is a lawful state": a `next` that no procedure reaches is no less awake
-    unreached-next : (p : Answered) (more : List Answered) → Answers score made (p ∷ more) →
+    pub unreached-next : (p : Answered) (more : List Answered) → Answers score made (p ∷ more) →
         (i b : ℕ) → List·Memᴰ i (agentsIn first) → agentAt (decode score) i ≡ Next b →
         {s s′ : List ℕ} {steps l : List Item} → Closes (decode score) [] s → Order (decode score) (start (agentsIn first) (p .inputs)) s steps (left l s′) → Quiet (decode score) l s′ →
         List·Memᴰ b (agentsIn (p .after))
@@ -95,7 +95,8 @@ module _ (d : Determinacy) (score : List ℕ) (w : ℕ → ℕ) (is : IsWeight (
         let like : QuietLike (decode score) l s′ p = d score w first last made (p ∷ more) runs is turn answers .orders [] more p refl (agentsIn first) _ (same-refl (agentsIn first)) none .ends s steps (left l s′) c o quiet in
         like .awake b .0 (next-wakes (decode score) i b e l (next-stays (decode score) i b e (agentsIn first) (p .inputs) m o))
 
-  any-agents : (agents last : List ℕ) (made : List Call) → ((i : ℕ) → List·Memᴰ i agents → i < 1024) → InTurn score (asBytes (running agents)) made last →
+  -- so an order may start with copies of any set of agents
+  pub any-agents : (agents last : List ℕ) (made : List Call) → ((i : ℕ) → List·Memᴰ i agents → i < 1024) → InTurn score (asBytes (running agents)) made last →
       (p : Answered) (more : List Answered) → Answers score made (p ∷ more) → (copies : List ℕ) → Same copies agents → AtInstant (decode score) w copies p
   any-agents agents last made within turn p more answers copies same =
       let first = asBytes (running agents) in
@@ -103,7 +104,7 @@ module _ (d : Determinacy) (score : List ℕ) (w : ℕ → ℕ) (is : IsWeight (
       d score w first last made (p ∷ more) (back .0) is turn answers .orders [] more p refl copies copies (same-trans same (same-sym (back .1))) none
 
   -- "each later one with the multiset that a finished order of the instant before left awake, whatever refused calls lie between"
-  refused-between : (input₁ input₂ input₃ : List ℕ) (before₁ after₁ before₂ after₂ before₃ after₃ : Lent) (a₁ a₂ a₃ : ℕ) →
+  pub refused-between : (input₁ input₂ input₃ : List ℕ) (before₁ after₁ before₂ after₂ before₃ after₃ : Lent) (a₁ a₂ a₃ : ℕ) →
       ScoreInstant score input₁ before₁ after₁ a₁ → ScoreInstant score input₂ before₂ after₂ a₂ → ScoreInstant score input₃ before₃ after₃ a₃ →
       numberIn a₁ ≡ 0 → (numberIn a₂ ≡ 0 → ⊥) → numberIn a₃ ≡ 0 → before₂ .state ≡ after₁ .state → before₃ .state ≡ after₂ .state → Running (before₁ .state) →
       {s s′ : List ℕ} {steps l : List Item} → Closes (decode score) [] s → Order (decode score) (start (agentsIn (before₁ .state)) (tokensIn input₁)) s steps (left l s′) → Quiet (decode score) l s′ →
@@ -118,7 +119,7 @@ module _ (d : Determinacy) (score : List ℕ) (w : ℕ → ℕ) (is : IsWeight (
 
   -- "for a run those that it wrote, also where it was then stopped": it leaves the state after them, and the orders of the
   -- instant call start with what theirs left awake
-  stopped-run : (inputs given last : List ℕ) (before after : RunLent) (before′ after′ : Lent) (a a′ : ℕ) (played : List Answered) →
+  pub stopped-run : (inputs given last : List ℕ) (before after : RunLent) (before′ after′ : Lent) (a a′ : ℕ) (played : List Answered) →
       ScoreRun score inputs before after a → numberIn a ≡ 15 → ScoreInstant score given before′ after′ a′ → numberIn a′ ≡ 0 → before′ .state ≡ after .state → Running (before .state) →
       Plays score (before .state) (take (valueIn a) (inputLists inputs)) played last →
       (before′ .state ≡ last) × ((awake : List ℕ) → Chain (decode score) (agentsIn (before .state)) (take (valueIn a) (inputLists inputs)) awake → AtInstant (decode score) w awake (answeredBy (tokensIn given) before′ after′ a′))
@@ -127,8 +128,7 @@ module _ (d : Determinacy) (score : List ℕ) (w : ℕ → ℕ) (is : IsWeight (
       let made = run inputs before after a ∷ instant given before′ after′ a′ ∷ [] in
       let wrote : written a ≡ valueIn a = rw full in
       let plays′ : Plays score (before .state) (take (written a) (inputLists inputs)) played last = rw wrote plays in
-      let claim = d score w (before .state) (after′ .state) made (played ++ q ∷ []) runs is (calls.InTurn.then c refl (calls.InTurn.then c′ e calls.InTurn.none)) (those plays′ (one n′ calls.Answers.none)) in
-      (
+      let claim = d score w (before .state) (after′ .state) made (played ++ q ∷ []) runs is (calls.InTurn.then c refl (calls.InTurn.then c′ e calls.InTurn.none)) (those plays′ (one n′ calls.Answers.none)) in (
         e ∙ claim .runs inputs before after a (List·Memᴰ·head refl) played last plays′ .state,
         λ awake chain. claim .orders played [] q refl (agentsIn (before .state)) awake (same-refl (agentsIn (before .state))) (rw (plays-inputs plays) chain),
       )

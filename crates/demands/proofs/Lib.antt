@@ -1,8 +1,10 @@
+pub mod Tests
 pub mod Accepted
 pub mod InstantExit
 pub mod Instants
 pub mod Linked
 pub mod RunExit
+pub mod Played
 pub mod Runs
 pub mod Turns
 pub mod Ends
