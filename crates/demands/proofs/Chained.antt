@@ -3,7 +3,7 @@
 --     chained            what holds, at the state that the definition gives
 --     at-instant         what holds, at the answered instant
 --     order-finishes     there is a finished order
-use mathlib.Core.Path.{_≡_, subst}
+use mathlib.Core.Path.{subst}
 use mathlib.Core.List.{List, _∷_, _++_, map}
 use Prim.Native.Nat.{ℕ}
 use Rattle.tcc.specs.Sets.{Same}

@@ -4,34 +4,33 @@
 --     leaves               an end that agrees with the definition's answer gives the instant's bytes
 --     ends-like            and is read off them
 --     from-aborted         from an aborted state nothing is reduced
-use mathlib.Core.Path.{_≡_, refl, sym, ap, ap₂, subst, subst⁻¹, _∙_}
+use mathlib.Core.Path.{_≡_, refl, sym, ap, subst, subst⁻¹, _∙_}
 use mathlib.Core.Bool.{Bool, true, false, cond}
 use mathlib.Core.List.{List, [], _∷_, map, List·Memᴰ}
 use Prim.Native.Nat.{ℕ, suc, _+_, _-_, _<_}
 use native.Mathlib.Omega.{arith}
 use borrow.Author.Tests.{lt-ltb, ne-eqb}
-use lib.Dec.{eqb, ltb}
+use lib.Dec.{ltb}
 use Rattle.tcc.specs.Sets.{Same, below, keep, has}
 use Rattle.tcc.specs.Score.{Score}
 use Rattle.tcc.specs.Order.{Item, End, aborted, left, awakeNext}
-use Rattle.tcc.specs.Instant.{Answer, abortedAnswer, output, State, running, answer, after}
+use Rattle.tcc.specs.Instant.{Answer, abortedAnswer, output, running, answer, after}
 use Rattle.tcc.specs.Instant as state
 use Rattle.tcc.specs.Confluence.{QuietAs, EndsAs}
 use Rattle.tcc.proofs.Sets.{Within, true-is-false, has-member, member-has, on-keep, keep-kept, same-sym, same-trans}
 use Rattle.tcc.proofs.SameAnswer.{SameAnswer}
 use Rattle.format.specs.Decode.{decode}
-use Rattle.words.specs.Word.{wordAt}
 use Rattle.lent.specs.Maps.{tokensIn, mapOf}
-use Rattle.lent.specs.States.{abortedWord, agentsIn, stateOf, asBytes, SameState}
+use Rattle.lent.specs.States.{stateOf, asBytes, SameState}
 use Rattle.lent.proofs.Round.{asBytes-same, mapOf-same, map-round}
-use Rattle.instant.proofs.Written.{Inside}
+use Rattle.lent.proofs.SameState.{state-running, state-aborted}
 use Rattle.journal.specs.History as journal
 use Rattle.journal.proofs.Rising.{rising-map, output-same}
 use Rattle.demands.specs.Calls.{Answered}
-use Rattle.demands.specs.Determinacy.{Running, QuietLike, AbortedLike, EndsLike}
+use Rattle.demands.specs.Determinacy.{EndsLike}
 use Rattle.demands.specs.Operational.{Holds, Leaves}
 use Rattle.demands.proofs.Accepted.{given, lawful}
-use Rattle.demands.proofs.Instants.{madeBy, IsInstant, instant-inside, after-round}
+use Rattle.demands.proofs.Instants.{IsInstant, instant-inside, after-round}
 
 pub ends-same : (sc : Score) (e : End) {a b : Answer} → SameAnswer a b → (a .status ≡ 2 → a ≡ abortedAnswer) → EndsAs sc e b → EndsAs sc e a
 ends-same sc aborted same whole h = whole (same .status ∙ ap (λ x. x .status) h)
@@ -67,19 +66,6 @@ map-back l within = same-trans (map-round l) (λ t. (
   λ m. on-keep {P = λ u. List·Memᴰ u l} (λ u. ltb u 256) l (λ u k p. k) t m,
   λ m. keep-kept (λ u. ltb u 256) m (lt-ltb t 256 (within t m)),
 ))
-
-state-running : (s agents : List ℕ) → SameState (stateOf s) (running agents) → Running s × Same (agentsIn s) agents
-unfolding stateOf SameState
-state-running s agents = go (eqb (wordAt s 0) abortedWord)
-  where
-    go : (b : Bool) → SameState (cond b state.aborted (running (agentsIn s))) (running agents) → (cond b state.aborted (running (agentsIn s)) ≡ running (agentsIn s)) × Same (agentsIn s) agents
-    go true h = absurd h
-    go false h = (refl, h)
-
-state-aborted : (st : State) → SameState st state.aborted → st ≡ state.aborted
-unfolding SameState
-state-aborted (running l) h = absurd h
-state-aborted state.aborted h = refl
 
 module _ {score : List ℕ} {p : Answered} (h : IsInstant score p) where
   abbrev now : Answer

@@ -4,7 +4,7 @@
 --     outcome              there is no other exit
 --     fit-answered         where all is right, the answer is the exit
 use mathlib.Core.Path.{_≡_, refl, sym, _∙_}
-use mathlib.Core.Bool.{Bool, true, false, cond, not}
+use mathlib.Core.Bool.{false, not}
 use mathlib.Core.List.{List}
 use Prim.Native.Nat.{ℕ}
 use native.Mathlib.Omega.{arith}
@@ -25,6 +25,7 @@ use Rattle.instant.proofs.Exits.{settled}
 use Rattle.score.specs.Answer.{numberOf}
 use Rattle.score.specs.ScoreInstant.{ofReply}
 use Rattle.score.proofs.CheckCall.{reply-number}
+use Rattle.demands.proofs.Tests.{by-test}
 use Rattle.demands.proofs.Accepted.{given, next-faultless, input-known}
 
 pub record Fit (score input : List ℕ) (l : Lent) : Type 0 where
@@ -38,25 +39,18 @@ pub data Outcome (score input : List ℕ) (l : Lent) : Exit → Type 0 where
   answers : Fit score input l → Outcome score input l (answered (decode score) (given score (l .state) (tokensIn input)))
 
 module _ (score input : List ℕ) (l : Lent) where
-  either : (test : Bool) {x y : Exit} → (test ≡ true → Outcome score input l x) → (test ≡ false → Outcome score input l y) → Outcome score input l (cond test x y)
-  either test {x} {y} yea nay = go test refl
-    where
-      go : (b : Bool) → test ≡ b → Outcome score input l (cond b x y)
-      go true e = yea e
-      go false e = nay e
-
   turned-down : (v : Verdict) → (check.numberOf v ≡ 0 → ⊥) → Outcome score input l (kept l (Turned v))
   turned-down v n = refuses (Turned v) (λ e. n (sym (reply-number (check.numberOf v) (check.valueOf v)) ∙ e)) (λ e. omega (arith, number-few v, reply-number (check.numberOf v) (check.valueOf v)))
 
   pub outcome : Outcome score input l (exit score input l)
   unfolding exit
   outcome =
-      either (not (eqb (check.numberOf (check.verdict score)) 0)) (λ e. turned-down (check.verdict score) (eqb-false (check.numberOf (check.verdict score)) 0 (not-true (eqb (check.numberOf (check.verdict score)) 0) e)))
+      by-test (Outcome score input l) (not (eqb (check.numberOf (check.verdict score)) 0)) (λ e. turned-down (check.verdict score) (eqb-false (check.numberOf (check.verdict score)) 0 (not-true (eqb (check.numberOf (check.verdict score)) 0) e)))
       (λ ok. let accepted = eqb-true (check.numberOf (check.verdict score)) 0 (not-false (eqb (check.numberOf (check.verdict score)) 0) ok) in
-      either (lengthFault input l) (λ e. refuses Lengths (λ z. omega arith) (λ z. omega arith))
-      (λ long. either (stateFault (sizes score .agents) (l .state)) (λ e. refuses State (λ z. omega arith) (λ z. omega arith))
-      (λ faultless. either (tokenFault score input) (λ e. refuses Input (λ z. omega arith) (λ z. omega arith))
-      (λ known. either (stateFault (sizes score .agents) (asBytes (after (given score (l .state) (tokensIn input)))))
+      by-test (Outcome score input l) (lengthFault input l) (λ e. refuses Lengths (λ z. omega arith) (λ z. omega arith))
+      (λ long. by-test (Outcome score input l) (stateFault (sizes score .agents) (l .state)) (λ e. refuses State (λ z. omega arith) (λ z. omega arith))
+      (λ faultless. by-test (Outcome score input l) (tokenFault score input) (λ e. refuses Input (λ z. omega arith) (λ z. omega arith))
+      (λ known. by-test (Outcome score input l) (stateFault (sizes score .agents) (asBytes (after (given score (l .state) (tokensIn input)))))
       (λ e. absurd (true-is-false e (next-faultless score accepted (l .state) faultless (tokensIn input) (input-known score input known))))
       (λ e. answers (record { accepted = accepted; long = long; faultless = faultless; known = known }))))))
 

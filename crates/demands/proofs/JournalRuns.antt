@@ -21,16 +21,16 @@ use Rattle.score.specs.ScoreRun.{ScoreRun}
 use Rattle.demands.specs.Calls.{written}
 use Rattle.demands.specs.JournalExact.{startHistory}
 use Rattle.demands.proofs.Accepted.{lawful, agents-counted}
-use Rattle.demands.proofs.Runs.{Call, refused, ran, called}
+use Rattle.demands.proofs.Runs.{Ended, refused, ran, run-ended}
 use Rattle.demands.proofs.JournalChecks.{start-stands}
 
 module _ (score inputs : List ℕ) (before after : Lent) (answer : ℕ) (c : ScoreRun score inputs before after answer) where
   pub run-writes : numberOf (verdict score) ≡ 0 → before .state ≡ asBytes (startState (decode score)) →
       after .journal ≡ bytesOf (startHistory score inputs (written answer)) ++ drop (4 * length (startHistory score inputs (written answer))) (before .journal)
   unfolding history bytesOf
-  run-writes accepted at = go (called c)
+  run-writes accepted at = go (run-ended c)
     where
-      go : Call score inputs before after answer → after .journal ≡ bytesOf (startHistory score inputs (written answer)) ++ drop (4 * length (startHistory score inputs (written answer))) (before .journal)
+      go : Ended score inputs before after answer → after .journal ≡ bytesOf (startHistory score inputs (written answer)) ++ drop (4 * length (startHistory score inputs (written answer))) (before .journal)
       go (refused n e) = rw n (ap (λ x. x .journal) e)
       go (ran f n e) =
           let law = lawful score accepted in
@@ -40,8 +40,8 @@ module _ (score inputs : List ℕ) (before after : Lent) (answer : ℕ) (c : Sco
           ∙ ap (λ w. bytesOf w ++ drop (4 * length w) (before .journal)) (ws ∙ ap (startHistory score inputs) (sym n))
 
   pub run-count : length (take (written answer) (inputLists inputs)) ≡ written answer
-  run-count = go (called c)
+  run-count = go (run-ended c)
     where
-      go : Call score inputs before after answer → length (take (written answer) (inputLists inputs)) ≡ written answer
+      go : Ended score inputs before after answer → length (take (written answer) (inputLists inputs)) ≡ written answer
       go (refused n e) = rw n
       go (ran f n e) = length-take-le (written answer) (inputLists inputs) (omega (arith, run-few score (before .state) (length (before .journal)) (inputLists inputs)))

@@ -1,8 +1,10 @@
+pub mod Tests
 pub mod Accepted
 pub mod InstantExit
 pub mod Instants
 pub mod Linked
 pub mod RunExit
+pub mod Played
 pub mod Runs
 pub mod Turns
 pub mod Ends
@@ -12,6 +14,7 @@ pub mod Operational
 pub mod Corollaries
 pub mod NotEmpty
 pub mod NoEleven
+pub mod Consequences
 pub mod JournalChecks
 pub mod JournalRuns
 pub mod JournalExact

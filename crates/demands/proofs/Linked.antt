@@ -11,15 +11,10 @@ use mathlib.Core.Bool.{false}
 use mathlib.Core.List.{List, [], _∷_, _++_, map}
 use Prim.Native.Nat.{ℕ}
 use native.Mathlib.Omega.{arith}
-use lib.ListN.{length}
 use Rattle.tcc.specs.Instant.{after, stateAfter}
 use Rattle.format.specs.Decode.{sizes, decode}
-use Rattle.format.proofs.Decode.{sizes-few}
-use Rattle.scorefile.specs.Check.{numberOf, verdict}
-use Rattle.lent.specs.States.{stateFault, stateOf, asBytes, SameState}
-use Rattle.lent.proofs.Round.{state-round}
+use Rattle.lent.specs.States.{stateFault, stateOf, SameState}
 use Rattle.lent.proofs.SameState.{state-refl, state-trans, along-same}
-use Rattle.instant.proofs.Written.{Inside}
 use Rattle.demands.specs.Calls.{Answered}
 use Rattle.demands.proofs.Accepted.{given}
 use Rattle.demands.proofs.Instants.{madeBy, IsInstant, after-round}

@@ -2,20 +2,20 @@
 --     by-the-rules       an instant of the definition is what the rules give
 --     linked-each        each instant of a row is one of the definition's
 --     operational        demand 2
-use mathlib.Core.Path.{_≡_, ap, subst, subst⁻¹}
-use mathlib.Core.List.{List, [], List·Memᴰ}
+use mathlib.Core.Path.{subst, subst⁻¹}
+use mathlib.Core.List.{List, []}
 use Prim.Native.Nat.{ℕ}
 use Rattle.tcc.specs.Lawful.{AgentsBelow}
 use Rattle.tcc.specs.Store.{Closes}
 use Rattle.tcc.specs.Order.{Item, End, Order, Finished, start}
-use Rattle.tcc.specs.Instant.{running, answer}
+use Rattle.tcc.specs.Instant.{answer}
 use Rattle.tcc.specs.Confluence.{EndsAs}
 use Rattle.tcc.proofs.Sets.{Within, on-cons, same-refl}
 use Rattle.tcc.proofs.Multiset.{start-below}
 use Rattle.tcc.proofs.Confluence.{confluence}
 use Rattle.tcc.proofs.Finishes.{finishes}
 use Rattle.format.specs.Decode.{decode}
-use Rattle.lent.specs.States.{agentsIn, stateOf, LawfulState}
+use Rattle.lent.specs.States.{agentsIn, LawfulState}
 use Rattle.demands.specs.Calls.{Answered}
 use Rattle.demands.specs.Determinacy.{Running}
 use Rattle.demands.specs.Operational.{Leaves, ByTheRules, Operational}

@@ -4,7 +4,7 @@
 --     Outcome              a refusal by a number that is neither 0, 11 nor 15, which leaves all as it was; or the instants
 --                          up to the end or to the first that has no room
 --     outcome              there is no other exit
-use mathlib.Core.Path.{_≡_, refl, sym, ap, subst, _∙_}
+use mathlib.Core.Path.{_≡_, refl, sym, subst, _∙_}
 use mathlib.Core.Bool.{Bool, true, false, cond, not, _||_}
 use mathlib.Core.List.{List, [], _∷_, List·Memᴰ, List·Memᴰ·head, List·Memᴰ·tail}
 use Prim.Native.Nat.{ℕ, _*_, _-_}
@@ -28,7 +28,6 @@ use Rattle.journal.specs.Instants.{inputLists}
 use Rattle.journal.specs.History.{entry, Rising}
 use Rattle.journal.proofs.Forms.{good-inputs}
 use Rattle.journal.proofs.Rising.{rising-below}
-use Rattle.history.specs.declared.Stop.{Stop}
 use Rattle.history.specs.declared.Stop.the-variants.{Not, Next, Room}
 use Rattle.history.specs.declared.Reply.{Reply}
 use Rattle.history.specs.declared.Reply.the-variants.{Score as Turned, Lengths, State, Bytes as NoWords, Word as Against}
@@ -37,6 +36,7 @@ use Rattle.history.specs.RunCall.{Lent, Exit, lengthFault, kept, ended, byForm,
 use Rattle.score.specs.Answer.{numberOf}
 use Rattle.score.specs.ScoreRun.{ofReply}
 use Rattle.score.proofs.CheckCall.{reply-number}
+use Rattle.demands.proofs.Tests.{by-test}
 use Rattle.demands.proofs.Accepted.{given, next-faultless}
 
 abbrev pub Rises : List ℕ → List (List ℕ) → Type 0
@@ -76,18 +76,11 @@ module _ (score : List ℕ) (accepted : check.numberOf (check.verdict score) ≡
       go true r h e = h e
       go false r h e = let z : _≡_ {A = ℕ} 0 1 = cc in omega arith
 
-neither : (a b : Bool) → (a || b) ≡ false → a ≡ false
-neither true b e = absurd (true-is-false refl e)
-neither false b e = refl
+first-false : (a b : Bool) → (a || b) ≡ false → a ≡ false
+first-false true b e = absurd (true-is-false refl e)
+first-false false b e = refl
 
 module _ (score inputs : List ℕ) (l : Lent) where
-  either : (test : Bool) {x y : Exit} → (test ≡ true → Outcome score inputs l x) → (test ≡ false → Outcome score inputs l y) → Outcome score inputs l (cond test x y)
-  either test {x} {y} yea nay = go test refl
-    where
-      go : (b : Bool) → test ≡ b → Outcome score inputs l (cond b x y)
-      go true e = yea e
-      go false e = nay e
-
   turned-down : (v : Verdict) → (check.numberOf v ≡ 0 → ⊥) → Outcome score inputs l (kept l (Turned v))
   turned-down v n =
       let m = reply-number (check.numberOf v) (check.valueOf v) in
@@ -102,11 +95,11 @@ module _ (score inputs : List ℕ) (l : Lent) where
   unfolding exit
   outcome =
       let n = check.numberOf (check.verdict score) in
-      either (not (eqb n 0)) (λ e. turned-down (check.verdict score) (eqb-false n 0 (not-true (eqb n 0) e)))
+      by-test (Outcome score inputs l) (not (eqb n 0)) (λ e. turned-down (check.verdict score) (eqb-false n 0 (not-true (eqb n 0) e)))
       (λ ok. let accepted = eqb-true n 0 (not-false (eqb n 0) ok) in
-      either (lengthFault l) (λ e. refuses Lengths (λ z. omega arith) (λ z. omega arith) (λ z. omega arith))
-      (λ right. let long = eqb-true (length (l .state)) stateBytes (not-false (eqb (length (l .state)) stateBytes) (neither (not (eqb (length (l .state)) stateBytes)) (not (eqb (length (l .scratch)) scratchBytes)) right)) in
-      either (stateFault (sizes score .agents) (l .state)) (λ e. refuses State (λ z. omega arith) (λ z. omega arith) (λ z. omega arith))
+      by-test (Outcome score inputs l) (lengthFault l) (λ e. refuses Lengths (λ z. omega arith) (λ z. omega arith) (λ z. omega arith))
+      (λ right. let long = eqb-true (length (l .state)) stateBytes (not-false (eqb (length (l .state)) stateBytes) (first-false (not (eqb (length (l .state)) stateBytes)) (not (eqb (length (l .scratch)) scratchBytes)) right)) in
+      by-test (Outcome score inputs l) (stateFault (sizes score .agents) (l .state)) (λ e. refuses State (λ z. omega arith) (λ z. omega arith) (λ z. omega arith))
       (λ faultless. formed (formOf false (sizes score .tokens) inputs) refl
       (λ good. let rising : Rises score (inputLists inputs) = λ x m. subst (λ t. Rising t x) (sym (decode-tokens score)) (good-inputs false (sizes score .tokens) inputs good x m) in
       runs (record { accepted = accepted; long = long; faultless = faultless; rising = rising }) (never-next score accepted (inputLists inputs) rising (l .state) faultless (length (l .journal)))))))

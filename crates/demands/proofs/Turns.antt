@@ -14,7 +14,8 @@ use Rattle.demands.specs.Calls as calls
 use Rattle.demands.proofs.Instants.{accepted-instant, refused-state}
 use Rattle.demands.proofs.Linked.{Linked, linked-append}
 use Rattle.demands.proofs.Linked as row
-use Rattle.demands.proofs.Runs.{plays-linked, taken-rises, run-shown, run-plays}
+use Rattle.demands.proofs.Played.{plays-linked}
+use Rattle.demands.proofs.Runs.{taken-rises, run-shown, run-plays}
 
 module _ {score : List ℕ} where
   pub linked : {s last : List ℕ} {made : List Call} {answered : List Answered} → InTurn score s made last → Answers score made answered → Linked score s answered last

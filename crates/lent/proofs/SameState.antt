@@ -1,9 +1,11 @@
 -- States with the same agents.
 --     state-refl, state-sym, state-trans     `SameState` is an equivalence
+--     state-running                          bytes that stand for the same state as a running one are running, with its agents
+--     state-aborted                          and with an aborted one there is none but it
 --     answer-same                            they give the same answers, on inputs with the same members
 --     after-same                             the same answers leave states with the same agents
 --     along-same                             so do instants, one after the other
-use mathlib.Core.Path.{_≡_}
+use mathlib.Core.Path.{_≡_, refl}
 use mathlib.Core.Bool.{Bool, true, false, cond}
 use mathlib.Core.List.{List, [], _∷_}
 use Prim.Native.Nat.{ℕ}
@@ -13,7 +15,8 @@ use Rattle.tcc.specs.Score.{Score}
 use Rattle.tcc.specs.Instant.{Answer, abortedAnswer, State, running, aborted, answer, after, stateAfter}
 use Rattle.tcc.proofs.Sets.{same-refl, same-sym, same-trans}
 use Rattle.tcc.proofs.SameAnswer.{SameAnswer, answer-refl, instant-same}
-use Rattle.lent.specs.States.{SameState}
+use Rattle.words.specs.Word.{wordAt}
+use Rattle.lent.specs.States.{abortedWord, agentsIn, stateOf, SameState}
 
 pub state-refl : (a : State) → SameState a a
 unfolding SameState
@@ -37,6 +40,19 @@ state-trans aborted (running k) (running m) h g = h
 state-trans aborted (running k) aborted h g = absurd h
 state-trans aborted aborted (running m) h g = g
 state-trans aborted aborted aborted h g = g
+
+pub state-running : (s agents : List ℕ) → SameState (stateOf s) (running agents) → (stateOf s ≡ running (agentsIn s)) × Same (agentsIn s) agents
+unfolding stateOf SameState
+state-running s agents = go (eqb (wordAt s 0) abortedWord)
+  where
+    go : (b : Bool) → SameState (cond b aborted (running (agentsIn s))) (running agents) → (cond b aborted (running (agentsIn s)) ≡ running (agentsIn s)) × Same (agentsIn s) agents
+    go true h = absurd h
+    go false h = (refl, h)
+
+pub state-aborted : (st : State) → SameState st aborted → st ≡ aborted
+unfolding SameState
+state-aborted (running l) h = absurd h
+state-aborted aborted h = refl
 
 pub answer-same : (sc : Score) (a b : State) {inputs inputs′ : List ℕ} → SameState a b → Same inputs inputs′ → SameAnswer (answer sc a inputs) (answer sc b inputs′)
 unfolding SameState answer
