@@ -3,7 +3,7 @@
 --     told-below       the inputs are below T
 --     outputs-known    no output is flagged from T on
 --     took             what the parts return is the instant
---     goes-not, not-goes, not-stopped
+--     goes-not, not-goes, not-stopped, took-fits
 --                      whether it is written
 use mathlib.Core.Path.{_≡_, refl, sym, ap, ap₂, subst⁻¹, _∙_}
 use mathlib.Core.Bool.{Bool, true, false, cond, not}
@@ -125,3 +125,8 @@ not-stopped false needed room e = go (leb needed room) refl e
     go : (b : Bool) → leb needed room ≡ b → goesOn (cond b Not Room) ≡ true → needed ≤ room
     go true p q = leb-true needed room p
     go false p q = absurd (true-is-false q refl)
+
+pub took-fits : {score ws room room′ : List ℕ} {a : Answer} {t : Taken} → Advanced score a ws room room′ t → goesOn (t .stop) ≡ true → t .bytes ≤ length room
+unfolding stopAt
+took-fits {score} {ws} {room} {room′} {a} {t} took e =
+    omega (arith, took .bytes-are, not-stopped (stateFault (sizes score .agents) (asBytes (after a))) (4 * length ws) (length room) (ap goesOn (sym (took .stop-is)) ∙ e))
