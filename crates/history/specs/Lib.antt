@@ -1,4 +1,4 @@
 pub mod Run
-pub mod Advance
 pub mod RunCall
+pub mod Advance
 pub mod JournalCheckCall

@@ -16,7 +16,7 @@ ghost use Rattle.journal.specs.Form.{formOf};
 ghost use Rattle.journal.specs.Instants.{inputLists};
 ghost use Rattle.journal.specs.History.{entry, Rising};
 ghost use Rattle.history.specs.Run.{stopBy, goesOn, runFrom};
-ghost use Rattle.history.specs.Advance.{Advanced, RanTo};
+ghost use Rattle.history.specs.Advance.{Advanced, RanTo, LeftBy};
 ghost use Rattle.history.specs.RunCall.{lent, ending, RunCall};
 use format::Sizes;
 use instant::Standing;
@@ -100,18 +100,31 @@ pub fn run(
         Form::Word(k) => Reply::Word(k),
         Form::Good => {
             lent::clear(scratch);
-            let ended = run_list(
-                score,
-                head,
-                instant::standing_in(state),
-                inputs,
-                journal,
-            );
-            keep(state, head.agents, ended);
-            let stop = ended.stop;
-            reply_of(stop, ended.instants)
+            run_from(score, head, state, inputs, journal)
         }
     }
+}
+
+// Runs a list of good form from a lawful state.
+fn run_from(
+    score: &[u8],
+    head: Sizes,
+    state: &mut [u8],
+    inputs: &[u8],
+    journal: &mut [u8],
+) -> Reply
+    requires { ⌜ head ≡ sizes (now score) ⌝ }
+    requires { ⌜ Playable (now score) ⌝ }
+    requires { ⌜ length (now state) ≡ 132 ⌝ }
+    requires { ⌜ stateFault (sizes (now score) .agents) (now state) ≡ false ⌝ }
+    requires { ⌜ formOf false (sizes (now score) .tokens) (now inputs) ≡ Good ⌝ }
+    ensures { λ r. ⌜ LeftBy (runFrom (now (score .entry)) (now (state .entry)) (length (now (journal .entry))) (inputLists (now (inputs .entry)))) (now (journal .entry)) (now (state .exit)) (now (journal .exit)) r ⌝ }
+{
+    let standing = instant::standing_in(state);
+    let ended = run_list(score, head, standing, inputs, journal);
+    keep(state, head.agents, ended);
+    let stop = ended.stop;
+    reply_of(stop, ended.instants)
 }
 
 // Whether a buffer has another length than it should.

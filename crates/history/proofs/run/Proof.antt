@@ -4,11 +4,8 @@ use Rattle.history.proofs.run.Tie as tie
 use Rattle.history.proofs.run.Reads as reads
 use Rattle.history.proofs.run.Lts as lts
 use Rattle.format.proofs.sizes_of.Reads as sizes-of-reads
-use Rattle.history.proofs.keep.Reads as keep-reads
-use Rattle.history.proofs.reply_of.Reads as reply-of-reads
-use Rattle.history.proofs.run_list.Reads as run-list-reads
+use Rattle.history.proofs.run_from.Reads as run-from-reads
 use Rattle.history.proofs.wrong_length.Reads as wrong-length-reads
-use Rattle.instant.proofs.standing_in.Reads as standing-in-reads
 use Rattle.journal.proofs.form_of.Reads as form-of-reads
 use Rattle.lent.proofs.clear.Reads as clear-reads
 use Rattle.lent.proofs.state_fault.Reads as state-fault-reads
@@ -76,21 +73,9 @@ enum-told-2 c = search needs
 clear-requires : tie.Need-clear-requires
 clear-requires c κs = search needs
 
--- src/lib.rt:106:17
-standing-in-requires : tie.Need-standing-in-requires
-standing-in-requires c κs = ?
-
--- src/lib.rt:103:17
-run-list-requires : tie.Need-run-list-requires
-run-list-requires c κs = ?
-
--- src/lib.rt:110:13
-keep-requires : tie.Need-keep-requires
-keep-requires c κs = ?
-
--- src/lib.rt:112:13
-reply-of-requires : tie.Need-reply-of-requires
-reply-of-requires c κs = search needs
+-- src/lib.rt:103:13
+run-from-requires : tie.Need-run-from-requires
+run-from-requires c κs = ?
 
 -- src/lib.rt:78:1
 same-length-2 : tie.Need-same-length-2
@@ -143,10 +128,7 @@ run-spec =
     enum-known-k
     enum-told-2
     clear-requires
-    standing-in-requires
-    run-list-requires
-    keep-requires
-    reply-of-requires
+    run-from-requires
     same-length-2
     returns-4
     same-length-3
