@@ -1,113 +1,138 @@
+-- `run`: each test in the order of the table, then the instants.
+use mathlib.Core.Path.{_≡_, sym, ap, _∙_}
 use borrow.Author.Needs.{needs}
+use native.Mathlib.Omega.{arith}
+use lib.ListN.{replicate}
+use mathlib.Core.Bool.{false}
+use Rattle.format.specs.Format.{sizesOf}
+use Rattle.format.specs.Decode.{sizes}
+use Rattle.scorefile.specs.Check.{numberOf, verdict}
+use Rattle.scorefile.proofs.Accepted.{accepted-only}
+use Rattle.scorefile.proofs.Lawful.{accepted-faultless, accepted-lawful}
+use Rattle.store.specs.Playable.{Playable}
+use Rattle.lent.specs.States.{stateFault}
+use Rattle.journal.specs.Form.{formOf}
+use Rattle.history.specs.RunCall.{Lent, lent, lengthFault}
+use Rattle.history.proofs.RunExits.{turned, lengths, state, bytes, word, runs, right-lengths}
 use Rattle.history.proofs.run.Statement.{statement}
 use Rattle.history.proofs.run.Tie as tie
-use Rattle.history.proofs.run.Reads as reads
-use Rattle.history.proofs.run.Lts as lts
-use Rattle.format.proofs.sizes_of.Reads as sizes-of-reads
-use Rattle.history.proofs.run_from.Reads as run-from-reads
-use Rattle.history.proofs.wrong_length.Reads as wrong-length-reads
-use Rattle.journal.proofs.form_of.Reads as form-of-reads
-use Rattle.lent.proofs.clear.Reads as clear-reads
-use Rattle.lent.proofs.state_fault.Reads as state-fault-reads
-use Rattle.scorefile.proofs.check.Reads as check-reads
-use Rattle.scorefile.proofs.number_of.Reads as number-of-reads
-use Rattle.words.proofs.word_at.Reads as word-at-reads
 
--- src/lib.rt:87:9
+abbrev buffers : tie.Start → Lent
+buffers b = lent (b .args .state .now) (b .args .journal .now) (b .args .scratch .now)
+
+accepted : (c : tie.Else1) → numberOf (verdict (c .before .before .before .before .before .before .before .before .args .score .now)) ≡ 0
+accepted c = sym (c .before .number-of .ensures ∙ ap numberOf (c .before .before .check .ensures)) ∙ c .if1 .left
+
+long : (c : tie.Else2) → lengthFault (buffers (c .before .before .before .before .before .before .before .before .before .before)) ≡ false
+long c = sym (c .before .wrong-length .ensures) ∙ c .if2 .left
+
+playable : (c : tie.Else1) → Playable (c .before .before .before .before .before .before .before .before .args .score .now)
+playable c =
+    let s = c .before .before .before .before .before .before .before .before .args .score .now in
+    let e = accepted-only (verdict s) (accepted c) in
+    record { whole = accepted-faultless s e .enough; lawful = accepted-lawful s e }
+
+sizes-are : (c : tie.After-sizes-of) → c .sizes-of .result ≡ sizes (c .before .before .before .before .before .before .before .before .before .before .before .before .args .score .now)
+sizes-are c = c .sizes-of .ensures ∙ ap sizesOf (c .before .word-at .ensures)
+
+fault-is : (c : tie.After-state-fault) → c .state-fault .result ≡ stateFault (sizes (c .before .before .before .before .before .before .before .before .before .before .before .before .before .before .args .score .now) .agents) (c .before .before .before .before .before .before .before .before .before .before .before .before .before .before .args .state .now)
+fault-is c = c .state-fault .ensures ∙ ap (λ h. stateFault (h .agents) (c .before .before .before .before .before .before .before .before .before .before .before .before .before .before .args .state .now)) (sizes-are (c .before .before))
+
+lawful : (c : tie.Else3) → stateFault (sizes (c .before .before .before .before .before .before .before .before .before .before .before .before .before .before .before .args .score .now) .agents) (c .before .before .before .before .before .before .before .before .before .before .before .before .before .before .before .args .state .now) ≡ false
+lawful c = sym (fault-is (c .before)) ∙ c .if3 .left
+
+form-is : (c : tie.After-form-of) → c .form-of .result ≡ formOf false (sizes (c .before .before .before .before .before .before .before .before .before .before .before .before .before .before .before .before .args .score .now) .tokens) (c .before .before .before .before .before .before .before .before .before .before .before .before .before .before .before .before .args .inputs .now)
+form-is c = c .form-of .ensures ∙ ap (λ h. formOf false (h .tokens) (c .before .before .before .before .before .before .before .before .before .before .before .before .before .before .before .before .args .inputs .now)) (sizes-are (c .before .before .before .before))
+
 check-requires : tie.Need-check-requires
 check-requires c κs = search needs
 
--- src/lib.rt:88:8
 number-of-requires : tie.Need-number-of-requires
 number-of-requires c κs = search needs
 
--- src/lib.rt:89:9
 returns : tie.Need-returns
-returns c = ?
+returns c = 
+    let b = c .before .before .before .before .before .before .before .before in
+    record { exits = turned (b .args .score .now) (b .args .inputs .now) (buffers b) (c .before .before .check .result) (c .before .before .check .ensures) (λ z. c .if1 .taken (c .before .number-of .ensures ∙ z)) }
 
--- src/lib.rt:91:8
 wrong-length-requires : tie.Need-wrong-length-requires
 wrong-length-requires c κs = search needs
 
--- src/lib.rt:92:9
 returns-2 : tie.Need-returns-2
-returns-2 c = ?
+returns-2 c = 
+    let b = c .before .before .before .before .before .before .before .before .before .before in
+    record { exits = lengths (b .args .score .now) (b .args .inputs .now) (buffers b) (accepted (c .before .before)) (sym (c .before .wrong-length .ensures) ∙ c .if2 .taken) }
 
--- src/lib.rt:94:33
 word-at-requires : tie.Need-word-at-requires
-word-at-requires c κs = ?
+word-at-requires c κs = omega (arith, playable (c .before .before) .whole)
 
--- src/lib.rt:94:9
 sizes-of-requires : tie.Need-sizes-of-requires
 sizes-of-requires c κs = search needs
 
--- src/lib.rt:95:8
 state-fault-requires : tie.Need-state-fault-requires
-state-fault-requires c κs = ?
+state-fault-requires c κs = right-lengths (buffers (c .before .before .before .before .before .before .before .before .before .before .before .before .before)) (long (c .before .before .before)) .state-long
 
--- src/lib.rt:96:9
 same-length : tie.Need-same-length
 same-length c = search needs
 
--- src/lib.rt:96:9
 returns-3 : tie.Need-returns-3
-returns-3 c = ?
+returns-3 c = 
+    let b = c .before .before .before .before .before .before .before .before .before .before .before .before .before .before .before in
+    record { exits = state (b .args .score .now) (b .args .inputs .now) (buffers b) (accepted (c .before .before .before .before .before .before .before)) (long (c .before .before .before .before .before)) (sym (fault-is (c .before)) ∙ c .if3 .taken) }
 
--- src/lib.rt:98:11
 form-of-requires : tie.Need-form-of-requires
 form-of-requires c κs = search needs
 
--- src/lib.rt:99:24
 enum-told : tie.Need-enum-told
 enum-told c = search needs
 
--- src/lib.rt:100:20
 enum-known-k : tie.Need-enum-known-k
 enum-known-k c = search needs
 
--- src/lib.rt:102:25
 enum-told-2 : tie.Need-enum-told-2
 enum-told-2 c = search needs
 
--- src/lib.rt:102:13
 clear-requires : tie.Need-clear-requires
 clear-requires c κs = search needs
 
--- src/lib.rt:103:13
 run-from-requires : tie.Need-run-from-requires
-run-from-requires c κs = ?
+run-from-requires c κs = 
+    let l = right-lengths (buffers (c .before .before .before .before .before .before .before .before .before .before .before .before .before .before .before .before .before .before .before .before .before .before .before .before)) (long (c .before .before .before .before .before .before .before .before .before .before .before .before .before .before)) in
+    (sizes-are (c .before .before .before .before .before .before .before .before .before .before .before .before), (playable (c .before .before .before .before .before .before .before .before .before .before .before .before .before .before .before .before), (l .state-long, (lawful (c .before .before .before .before .before .before .before .before .before), sym (form-is (c .before .before .before .before .before .before .before .before)) ∙ c .before .before .before .before .before .before .enum-told2 .given .1))))
 
--- src/lib.rt:78:1
 same-length-2 : tie.Need-same-length-2
 same-length-2 c = search needs
 
--- src/lib.rt:78:1
 returns-4 : tie.Need-returns-4
-returns-4 c = ?
+returns-4 c = 
+    let b = c .before .before .before .before .before .before .before .before .before .before .before .before .before .before .before .before .before .before in
+    record { exits = bytes (b .args .score .now) (b .args .inputs .now) (buffers b) (accepted (c .before .before .before .before .before .before .before .before .before .before)) (long (c .before .before .before .before .before .before .before .before)) (lawful (c .before .before .before)) (sym (form-is (c .before .before)) ∙ c .enum-told .given .1) }
 
--- src/lib.rt:78:1
 same-length-3 : tie.Need-same-length-3
 same-length-3 c = search needs
 
--- src/lib.rt:78:1
 returns-5 : tie.Need-returns-5
-returns-5 c = ?
+returns-5 c = 
+    let b = c .before .before .before .before .before .before .before .before .before .before .before .before .before .before .before .before .before .before .before in
+    record { exits = word (b .args .score .now) (b .args .inputs .now) (buffers b) (accepted (c .before .before .before .before .before .before .before .before .before .before .before)) (long (c .before .before .before .before .before .before .before .before .before)) (lawful (c .before .before .before .before)) _ (sym (form-is (c .before .before .before)) ∙ c .before .k .given .1) }
 
--- src/lib.rt:78:1
 same-length-4 : tie.Need-same-length-4
 same-length-4 c = search needs
 
--- src/lib.rt:78:1
 same-length-5 : tie.Need-same-length-5
 same-length-5 c = search needs
 
--- src/lib.rt:78:1
 same-length-6 : tie.Need-same-length-6
 same-length-6 c = search needs
 
--- src/lib.rt:78:1
 returns-6 : tie.Need-returns-6
-returns-6 c = ?
+returns-6 c = 
+    let b = c .before .before .before .before .before .before .before .before .before .before .before .before .before .before .before .before .before .before .before .before .before .before .before .before .before .before .before .before .before in
+    record {
+      exits =
+          runs (b .args .score .now) (b .args .inputs .now) (buffers b) (accepted (c .before .before .before .before .before .before .before .before .before .before .before .before .before .before .before .before .before .before .before .before .before)) (long (c .before .before .before .before .before .before .before .before .before .before .before .before .before .before .before .before .before .before .before)) (lawful (c .before .before .before .before .before .before .before .before .before .before .before .before .before .before)) (sym (form-is (c .before .before .before .before .before .before .before .before .before .before .before .before .before)) ∙ c .before .before .before .before .before .before .before .before .before .before .before .enum-told2 .given .1) _ _ _ _
+          (c .before .before .before .before .before .before .before .before .before .clear .ensures ∙ ap (λ n. replicate n 0) (right-lengths (buffers b) (long (c .before .before .before .before .before .before .before .before .before .before .before .before .before .before .before .before .before .before .before)) .scratch-long)) (c .before .before .before .before .run-from .ensures);
+    }
 
 pub run-spec : {M : Type 1} → statement M
 run-spec =
