@@ -1,6 +1,5 @@
 ghost use mathlib.Core.Path.{_≡_};
-ghost use mathlib.Core.List.{_∷_};
-ghost use Prim.Native.Nat.{_+_, _<_, _≤_};
+ghost use Prim.Native.Nat.{_+_, _≤_};
 ghost use lib.ListN.{length};
 ghost use Rattle.tcc.specs.Store.{closure};
 ghost use Rattle.format.specs.Decode.{sizes, decode};
@@ -30,18 +29,6 @@ pub fn closed(s: &[u8], head: Sizes, tokens: Tokens) -> Tokens
         flood(head.tokens, &mut store);
     }
     store
-}
-
-// The store with one token taken up.
-pub fn take_up(s: &[u8], head: Sizes, store: Tokens, token: usize) -> Tokens
-    requires { ⌜ head ≡ sizes (now s) ⌝ }
-    requires { ⌜ Playable (now s) ⌝ }
-    requires { ⌜ token < 256 ⌝ }
-    ensures { λ r. ⌜ r ≡ flagsOf 256 (closure (decode (now (s .entry))) (token ∷ setOf store)) ⌝ }
-{
-    let mut told = store;
-    told[token] = true;
-    closed(s, head, told)
 }
 
 // One pass over the rules, which start at a given word; says whether it added a token.
