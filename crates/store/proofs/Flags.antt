@@ -9,7 +9,7 @@
 --     set-cases          and no other
 --     set-longer         it is one member more, if it was not in
 --     set-length-le      no more members than flags
---     set-more           where every member is one of as many flags more, there are no fewer of those
+--     set-more           as many flags that have every member have no fewer
 --     setOf-none         where no flag is set, no members
 --     flagsOf-length, flagsOf-flag       a set's flags: n of them, flag i says whether i is in
 --     flagsOf-member, flagsOf-within, member-flagsOf     their members are the set's below n
@@ -17,7 +17,7 @@
 use mathlib.Core.Path.{_≡_, refl, sym, ap, _∙_}
 use mathlib.Core.Bool.{Bool, true, false, cond}
 use mathlib.Core.List.{List, [], _∷_, _++_, map, List·Memᴰ, List·Memᴰ·head, List·Memᴰ·tail}
-use mathlib.Core.Logic.{_⊎_, inl, inr, ⊎-elim, by-cases}
+use mathlib.Core.Logic.{_⊎_, inl, inr, by-cases}
 use Prim.Native.Nat.{ℕ, zero, suc, _≤_, _<_}
 use native.Mathlib.Nat.{not-suc-le-zero, le-of-suc-le-suc}
 use native.Mathlib.Decide.{decLt, ℕ-discrete}
@@ -25,7 +25,7 @@ use native.Mathlib.Omega.{arith}
 use lib.ListN.{length, getD, set, replicate, length-append, length-set, length-map, length-replicate, getD-replicate, List·getD-eq-default, List·getD-append}
 use lib.Seq.{getD-set-same, getD-set-other, getD-at, ext-getD}
 use Rattle.tcc.specs.Sets.{below, keep, has}
-use Rattle.tcc.proofs.Sets.{Within, Among, true-is-false, on-cons, on-keep, keep-kept, keep-agrees, below-lt, lt-below, has-member, member-has, not-has}
+use Rattle.tcc.proofs.Sets.{Within, Among, true-is-false, on-keep, keep-kept, keep-agrees, below-lt, lt-below, has-member, member-has, not-has}
 use Rattle.store.specs.Flags.{setOf, flagsOf}
 
 module _ {A : Type 0} (f : A → Bool) where

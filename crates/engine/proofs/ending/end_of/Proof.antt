@@ -1,10 +1,9 @@
 -- `ending::end_of`: the live agents from i on are read.
-use mathlib.Core.Path.{_≡_, refl, sym, ap, subst, subst⁻¹, _∙_}
+use mathlib.Core.Path.{_≡_, refl, sym, ap, subst, _∙_}
 use mathlib.Core.Bool.{cond}
 use mathlib.Core.List.{[], _∷_, List·Memᴰ·head}
 use Prim.Native.Nat.{_+_, _-_, _<_, _≤_}
 use native.Mathlib.Omega.{arith}
-use Rattle.tcc.specs.Score.{agentAt}
 use Rattle.tcc.specs.Instant.{isAbort, reducible, leaves}
 use Rattle.tcc.proofs.Sets.{true-is-false}
 use Rattle.format.specs.Decode.{decode}
