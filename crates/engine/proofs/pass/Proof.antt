@@ -66,7 +66,7 @@ element-write-held : tie.Need-element-write-held Inv-loop μ-loop
 element-write-held c =
     let a = c .before .before .before .before .before in
     let b = a .before .before .before .before .before .before in
-    token-few (b .pre .1 .0) (a .before .before .before .before .loop .i - 1) (sym (a .agent-at .ensures) ∙ c .before .before .before .token .given .1) (List·Memᴰ·head refl)
+    omega (arith, token-few (b .pre .1 .0) (a .before .before .before .before .loop .i - 1) (sym (a .agent-at .ensures) ∙ c .before .before .before .token .given .1) (List·Memᴰ·head refl))
 
 loop-less : tie.Need-loop-less Inv-loop μ-loop
 loop-less c = search needs
@@ -91,7 +91,10 @@ element-write-live : tie.Need-element-write-live Inv-loop μ-loop
 element-write-live c = let a = c .before .before .before in part-few (coming a) _ (sym (a .agent-at .ensures) ∙ c .before .a .given .1) (List·Memᴰ·head refl)
 
 element-write-live-2 : tie.Need-element-write-live-2 Inv-loop μ-loop
-element-write-live-2 c = let a = c .before .before .before in part-few (coming a) _ (sym (a .agent-at .ensures) ∙ c .before .a .given .1) (List·Memᴰ·tail (List·Memᴰ·head refl))
+element-write-live-2 c =
+    let a = c .before .before .before in
+    let first = element-write-live c in
+    omega (arith, first, part-few (coming a) _ (sym (a .agent-at .ensures) ∙ c .before .a .given .1) (List·Memᴰ·tail (List·Memᴰ·head refl)))
 
 loop-less-3 : tie.Need-loop-less-3 Inv-loop μ-loop
 loop-less-3 c = search needs
@@ -148,7 +151,8 @@ element-copy-out-if4 c =
 element-write-live-4 : tie.Need-element-write-live-4 Inv-loop μ-loop
 element-write-live-4 c =
     let a = c .before .before .before .before .before .before in
-    root-few (coming a) (sym (a .agent-at .ensures) ∙ c .before .before .before .before .procedure .given .1) _ (c .before .before .root-of .ensures)
+    let here = coming a .known in
+    omega (arith, here, root-few (coming a) (sym (a .agent-at .ensures) ∙ c .before .before .before .before .procedure .given .1) _ (c .before .before .root-of .ensures))
 
 loop-less-6 : tie.Need-loop-less-6 Inv-loop μ-loop
 loop-less-6 c = search needs

@@ -110,7 +110,7 @@ body-few c =
     omega (arith, part-lower (b .pre .1 .lawful) (a .before .before .before .before .loop .i - 1) (c .before .body .given .0 .0) (sym (a .agent-at .ensures) ∙ c .before .body .given .1) (List·Memᴰ·head refl), i-few (a .before .before .before))
 
 array-write-awake : tie.Need-array-write-awake Inv-loop μ-loop
-array-write-awake c = body-few c
+array-write-awake c = omega (arith, body-few c, i-few (c .before .before .before .before .before .before))
 
 loop-less-3 : tie.Need-loop-less-3 Inv-loop μ-loop
 loop-less-3 c = search needs
