@@ -13,5 +13,7 @@ int main(int count, char **names)
     equal = print_check_table(names[1]);
     printf("\n");
     equal &= print_engine_table();
+    printf("\n");
+    equal &= print_growth_table();
     return equal ? 0 : 1;
 }

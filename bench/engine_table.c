@@ -1,4 +1,5 @@
-/* engine_table.c: times the instant, the run and the journal check against two engines written by hand, on five scores.
+/* engine_table.c: times the instant, the run and the journal check against two engines written by hand, on five scores;
+ * and how the library's instant grows with the score.
  *
  * The library's columns stand for the functions that it has: LIBRARY_INSTANT, LIBRARY_RUN and LIBRARY_JOURNAL_CHECK
  * say so.
@@ -137,11 +138,26 @@ static size_t journal_len(const uint8_t *journal)
     return len;
 }
 
-static void prepare(struct lent *lent, void (*build)(struct score_bytes *score, struct input_tokens *input))
+/* The scores, each of a size. */
+static const struct kind {
+    const char *name;
+    score_builder *build;
+    uint32_t size;
+} kinds[] = {
+    {"60 agents", build_winches, 12},
+    {"200, 40 winches", build_winches, 40},
+    {"1,000 whens", build_when_chain, 1000},
+    {"256 rules", build_rule_chain, 256},
+    {"deep sharing", build_deep_sharing, 1000},
+};
+
+enum { KINDS = sizeof kinds / sizeof *kinds };
+
+static void prepare(struct lent *lent, score_builder *build, uint32_t size)
 {
     struct input_tokens input;
     memset(lent, 0, sizeof *lent);
-    build(&lent->score, &input);
+    build(&lent->score, &input, size);
     write_start(lent);
     write_inputs(lent, &input);
     one_run(&passes, lent);
@@ -210,25 +226,45 @@ static int print_row(const char *name, int number, struct lent *lent)
 
 int print_engine_table(void)
 {
-    static const struct {
-        const char *name;
-        void (*build)(struct score_bytes *score, struct input_tokens *input);
-    } scores[] = {
-        {"60 agents", build_12_winches},
-        {"200, 40 winches", build_40_winches},
-        {"1,000 whens", build_when_chain},
-        {"256 rules", build_rule_chain},
-        {"deep sharing", build_deep_sharing},
-    };
     static struct lent lent;
-    size_t i;
-    int row, equal = 1;
+    int kind, row, equal = 1;
     printf("%-20s %-14s %10s %10s %10s %8s %8s\n", "ns an instant", "call", "C passes", "C linear", "library",
            "/passes", "/linear");
-    for (i = 0; i < sizeof scores / sizeof *scores; i++) {
-        prepare(&lent, scores[i].build);
+    for (kind = 0; kind < KINDS; kind++) {
+        prepare(&lent, kinds[kind].build, kinds[kind].size);
         for (row = 0; row < ROWS; row++)
-            equal &= print_row(scores[i].name, row, &lent);
+            equal &= print_row(kinds[kind].name, row, &lent);
     }
+    return equal;
+}
+
+/* Times the library's instant on a score of half the size and of the whole, in turn; 0 if an answer is wrong. */
+static int print_growth(const struct kind *kind)
+{
+    static struct lent lent[2];
+    double ns[2] = {1e18, 1e18};
+    long times[2];
+    int repetition, i;
+    for (i = 0; i < 2; i++) {
+        prepare(&lent[i], kind->build, kind->size * (1 + i) / 2);
+        if (!agree(&rows[0], &passes, &library, &lent[i]))
+            return 0;
+        times[i] = calls_in_a_repetition(&rows[0], &library, &lent[i]);
+    }
+    for (repetition = 0; repetition < REPETITIONS; repetition++)
+        for (i = 0; i < 2; i++)
+            ns[i] = least(ns[i], time_calls(&rows[0], &library, &lent[i], times[i]));
+    printf("%-20s %10.1f %10.1f %8.2f\n", kind->name, ns[0], ns[1], ns[1] / ns[0]);
+    return 1;
+}
+
+int print_growth_table(void)
+{
+    int kind, equal = 1;
+    if (!has(&library, 0))
+        return 1;
+    printf("%-20s %10s %10s %8s\n", "library's instant", "half", "whole", "growth");
+    for (kind = 0; kind < KINDS; kind++)
+        equal &= print_growth(&kinds[kind]);
     return equal;
 }

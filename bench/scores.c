@@ -154,7 +154,7 @@ static uint32_t push_winch(struct score_bytes *score, uint32_t winch, uint32_t b
 /* With power, a winch that may go is ready; one that runs at its limit is a clash. A third of the winches are at their
  * limits, and a third may go.
  */
-static void build_winches(struct score_bytes *score, struct input_tokens *input, uint32_t winches)
+void build_winches(struct score_bytes *score, struct input_tokens *input, uint32_t winches)
 {
     struct sizes sizes = {0, 0, 1, 0};
     uint32_t winch, root = 1;
@@ -175,57 +175,54 @@ static void build_winches(struct score_bytes *score, struct input_tokens *input,
     }
 }
 
-void build_12_winches(struct score_bytes *score, struct input_tokens *input) { build_winches(score, input, 12); }
-
-void build_40_winches(struct score_bytes *score, struct input_tokens *input) { build_winches(score, input, 40); }
-
-enum { CHAIN = 1000 };
-
-/* 1,000 whens one inside the other, all answered by the input. */
-void build_when_chain(struct score_bytes *score, struct input_tokens *input)
+/* Whens one inside the other, all answered by the input. */
+void build_when_chain(struct score_bytes *score, struct input_tokens *input, uint32_t whens)
 {
-    static const struct sizes sizes = {256, CHAIN + 4, 1, 0};
+    struct sizes sizes = {256, 0, 1, 0};
     uint32_t i;
+    sizes.agents = whens + 4;
     begin(score, sizes);
     push_again(score);
     push(score, skip());
-    for (i = 0; i < CHAIN; i++)
+    for (i = 0; i < whens; i++)
         push(score, when(2 + i, 1 + i % 255));
-    push(score, parallel(1, CHAIN + 2));
-    push(score, procedure(CHAIN + 3));
+    push(score, parallel(1, whens + 2));
+    push(score, procedure(whens + 3));
     input->len = 0;
     for (i = 1; i < 256; i++)
         add_input(input, i);
 }
 
-/* Token 1 brings about token 255 by 254 rules, the last of which stands first; two more add nothing. */
-void build_rule_chain(struct score_bytes *score, struct input_tokens *input)
+/* Token 1 brings about the highest token by a chain of rules, the last of which stands first; two more add nothing. */
+void build_rule_chain(struct score_bytes *score, struct input_tokens *input, uint32_t rules)
 {
-    static const struct sizes sizes = {256, 4, 1, 256};
-    uint32_t token;
+    struct sizes sizes = {0, 4, 1, 0};
+    uint32_t token, highest = rules - 1;
+    sizes.tokens = rules;
     begin(score, sizes);
     push_again(score);
     push(score, tell(1));
     push(score, parallel(1, 2));
     push(score, procedure(3));
-    for (token = 254; token > 0; token--)
+    for (token = highest - 1; token > 0; token--)
         push(score, rule(token + 1, token, 1));
-    push(score, rule(1, 255, 254));
-    push(score, rule(2, 255, 255));
+    push(score, rule(1, highest, highest - 1));
+    push(score, rule(2, highest, highest));
     input->len = 0;
 }
 
-/* 1,000 parallels of the agent before with itself: 2^1,000 copies of a tell. */
-void build_deep_sharing(struct score_bytes *score, struct input_tokens *input)
+/* Parallels of the agent before with itself: n of them make 2^n copies of a tell. */
+void build_deep_sharing(struct score_bytes *score, struct input_tokens *input, uint32_t parallels)
 {
-    static const struct sizes sizes = {256, CHAIN + 4, 1, 0};
+    struct sizes sizes = {256, 0, 1, 0};
     uint32_t i;
+    sizes.agents = parallels + 4;
     begin(score, sizes);
     push_again(score);
     push(score, tell(1));
-    for (i = 0; i < CHAIN; i++)
+    for (i = 0; i < parallels; i++)
         push(score, parallel(2 + i, 2 + i));
-    push(score, parallel(1, CHAIN + 2));
-    push(score, procedure(CHAIN + 3));
+    push(score, parallel(1, parallels + 2));
+    push(score, procedure(parallels + 3));
     input->len = 0;
 }

@@ -25,11 +25,11 @@ void build_largest(struct score_bytes *score);
 void build_usual(struct score_bytes *score);
 void build_call_chain(struct score_bytes *score);
 
-/* For the engines: procedure 0 calls itself again under a next, so that every instant has the same work. */
-void build_12_winches(struct score_bytes *score, struct input_tokens *input);
-void build_40_winches(struct score_bytes *score, struct input_tokens *input);
-void build_when_chain(struct score_bytes *score, struct input_tokens *input);
-void build_rule_chain(struct score_bytes *score, struct input_tokens *input);
-void build_deep_sharing(struct score_bytes *score, struct input_tokens *input);
+/* For the engines, of so many winches, whens, rules or parallels: procedure 0 calls itself again under a next, so that
+ * every instant has the same work.
+ */
+typedef void score_builder(struct score_bytes *score, struct input_tokens *input, uint32_t size);
+
+score_builder build_winches, build_when_chain, build_rule_chain, build_deep_sharing;
 
 #endif

@@ -1,10 +1,14 @@
--- The loops over the live agents that read an instant's answer off its marks. Each goes down to agent 0.
---     AbortFree, abort-free-none, abort-free-more, abort-free-all     no live agent from i on is an abort
---     abort-found              one is
---     counted                  the agents below i that pass a test are one more than those below i - 1, or as many
---     Woken, woken-none, woken-by, woken-marked, woken-all     awake are the bodies left by the live agents from i on
-use mathlib.Core.Path.{_≡_, refl, sym, ap, subst, subst⁻¹, _∙_}
-use mathlib.Core.Bool.{Bool, true, false, cond}
+-- The loop over the live agents, down to agent 0, that reads an instant's answer off its marks.
+--     abort-found        a live agent is an abort
+--     counted            the agents below k + 1 that pass a test are one more than those below k, or as many
+--     Ending             the live agents from i on are no aborts; those reduced are counted, and the bodies they leave awake
+--     ending-none        the loop begins
+--     Reading            agent k is read
+--     ending-by          it is not live
+--     ending-reduced, ending-waits, ending-left     it is reduced; it is neither reduced nor leaves a body; it leaves one
+--     ending-free, ending-count, ending-awake     the loop ends
+use mathlib.Core.Path.{_≡_, refl, sym, ap, ap₂, subst, subst⁻¹, _∙_}
+use mathlib.Core.Bool.{Bool, true, false, cond, _&&_}
 use mathlib.Core.List.{List, [], _∷_, List·Memᴰ, List·Memᴰ·head, List·Memᴰ·cases-cons}
 use mathlib.Core.Logic.{⊎-elim}
 use Prim.Native.Nat.{ℕ, suc, _+_, _<_, _≤_}
@@ -13,45 +17,17 @@ use native.Mathlib.Omega.{arith}
 use lib.ListN.{length, getD, set, replicate, length-append, length-set, length-replicate, List·getD-eq-default}
 use Rattle.tcc.specs.Sets.{below, keep, any, has}
 use Rattle.tcc.specs.Score.{Score, agentAt}
-use Rattle.tcc.specs.Instant.{isAbort, leaves, leftAwake}
-use Rattle.tcc.specs.declared.Agent.{Agent}
-use Rattle.tcc.specs.declared.Agent.the-variants.{Skip, Abort, Tell, Parallel, When, Next, Unless, Call}
+use Rattle.tcc.specs.Instant.{isAbort, reducible, leaves, reducedOf, leftAwake}
+use Rattle.tcc.specs.declared.Agent.the-variants.{Skip}
 use Rattle.tcc.proofs.Sets.{true-is-false, any-some, some-any}
 use Rattle.tcc.proofs.FixedPoint.{awake-member, member-awake}
 use Rattle.store.specs.Flags.{setOf, flagsOf}
 use Rattle.store.proofs.Flags.{flag-member, member-flag, keep-append, set-kept, set-here, set-cases, setOf-none, flags-settled}
+use Rattle.engine.proofs.Known.{flag-has}
 
-module _ (sc : Score) (flags : List Bool) where
-  abbrev pub AbortFree : ℕ → Type 0
-  AbortFree i = (j : ℕ) → i ≤ j → List·Memᴰ j (setOf flags) → isAbort (agentAt sc j) ≡ false
-
-  -- agents past the end are no aborts
-  pub abort-free-none : (i : ℕ) → length (sc .agents) ≤ i → AbortFree i
-  abort-free-none i h j le m = ap isAbort (List·getD-eq-default (sc .agents) Skip (omega arith))
-
-  pub abort-free-more : (i k : ℕ) → i ≤ k + 1 → AbortFree i → (List·Memᴰ k (setOf flags) → isAbort (agentAt sc k) ≡ false) → AbortFree k
-  abort-free-more i k next free here j le m = go (ℕ-discrete j k)
-    where
-      go : Dec (j ≡ k) → isAbort (agentAt sc j) ≡ false
-      go (yes e) = subst⁻¹ (λ n. isAbort (agentAt sc n) ≡ false) e (here (subst (λ n. List·Memᴰ n (setOf flags)) e m))
-      go (no n) = free j (omega arith) m
-
-  abbrev Aborting : Bool
-  Aborting = any (λ i. isAbort (agentAt sc i)) (setOf flags)
-
-  pub abort-free-all : (i : ℕ) → i ≤ 0 → AbortFree i → false ≡ Aborting
-  abort-free-all i z free = go Aborting refl
-    where
-      go : (b : Bool) → Aborting ≡ b → false ≡ Aborting
-      go true e = let x = any-some (λ j. isAbort (agentAt sc j)) (setOf flags) e in absurd (true-is-false (x .2) (free (x .0) (omega arith) (x .1)))
-      go false e = sym e
-
-  pub abort-found : (k : ℕ) → getD flags k false ≡ true → isAbort (agentAt sc k) ≡ true → true ≡ Aborting
-  abort-found k here e = sym (some-any (λ j. isAbort (agentAt sc j)) (flag-member flags here) e)
-
-pub counted : (f : ℕ → Bool) (i k : ℕ) (b : Bool) → i ≡ k + 1 → f k ≡ b → length (keep f (below i)) ≡ cond b 1 0 + length (keep f (below k))
-counted f i k b e p =
-    ap (λ n. length (keep f (below n))) (let q : i ≡ suc k = omega arith in q)
+counted : (f : ℕ → Bool) (k : ℕ) (b : Bool) → f k ≡ b → length (keep f (below (k + 1))) ≡ cond b 1 0 + length (keep f (below k))
+counted f k b p =
+    ap (λ n. length (keep f (below n))) (let q : k + 1 ≡ suc k = omega arith in q)
     ∙ ap length (keep-append f (below k) (k ∷ []))
     ∙ length-append (keep f (below k)) (keep f (k ∷ []))
     ∙ ap (λ x. length (keep f (below k)) + length (cond x (k ∷ []) [])) p
@@ -61,79 +37,100 @@ counted f i k b e p =
     last true = omega arith
     last false = omega arith
 
--- an agent leaves one body at most
-leaves-few : (store : List ℕ) (a : Agent) → length (leaves store a) ≤ 1
-leaves-few store Skip = omega arith
-leaves-few store Abort = omega arith
-leaves-few store (Tell t) = omega arith
-leaves-few store (Parallel a b) = omega arith
-leaves-few store (When t b) = omega arith
-leaves-few store (Next b) = omega arith
-leaves-few store (Unless t b) = go (has t store)
-  where
-    go : (x : Bool) → length (cond x [] (b ∷ [])) ≤ 1
-    go true = omega arith
-    go false = omega arith
-leaves-few store (Call p) = omega arith
-
-only-first : (l : List ℕ) (d b : ℕ) → length l ≤ 1 → List·Memᴰ b l → b ≡ getD l 0 d
-only-first [] d b h m = elim m [ ]
-only-first (x ∷ []) d b h m = ⊎-elim (λ (e : b ≡ x). e) (λ (k : List·Memᴰ b []). elim k [ ]) (List·Memᴰ·cases-cons m)
-only-first (x ∷ y ∷ l) d b h m = absurd (omega arith)
-
-first-in : (l : List ℕ) (d : ℕ) → getD l 0 d < d → List·Memᴰ (getD l 0 d) l
-first-in [] d h = absurd (omega arith)
-first-in (x ∷ l) d h = List·Memᴰ·head refl
-
 module _ (sc : Score) (store : List ℕ) (flags : List Bool) where
-  pub record Woken (i : ℕ) (awake : List Bool) : Type 0 where
-    pub long : length awake ≡ 1024
-    pub sound : (b : ℕ) → List·Memᴰ b (setOf awake) → List·Memᴰ b (leftAwake sc store (setOf flags))
-    pub whole : (j b : ℕ) → i ≤ j → b < 1024 → List·Memᴰ j (setOf flags) → List·Memᴰ b (leaves store (agentAt sc j)) → List·Memᴰ b (setOf awake)
+  abbrev Aborting : Bool
+  Aborting = any (λ i. isAbort (agentAt sc i)) (setOf flags)
 
-  pub woken-none : (i : ℕ) → length (sc .agents) ≤ i → Woken i (replicate 1024 false)
-  woken-none i h = record {
+  pub abort-found : (k : ℕ) → getD flags k false ≡ true → isAbort (agentAt sc k) ≡ true → true ≡ Aborting
+  abort-found k here e = sym (some-any (λ j. isAbort (agentAt sc j)) (flag-member flags here) e)
+
+  -- whether agent i is counted
+  abbrev reduced : ℕ → Bool
+  reduced i = has i (setOf flags) && reducible store (agentAt sc i)
+
+  pub record Ending (i count : ℕ) (awake : List Bool) : Type 0 where
+    pub few : count + i ≤ length (sc .agents)
+    pub long : length awake ≡ 1024
+    pub free : (j : ℕ) → i ≤ j → List·Memᴰ j (setOf flags) → isAbort (agentAt sc j) ≡ false
+    pub counts : count + length (keep reduced (below i)) ≡ length (reducedOf sc store (setOf flags))
+    pub sound : (b : ℕ) → List·Memᴰ b (setOf awake) → List·Memᴰ b (leftAwake sc store (setOf flags))
+    pub whole : (j b : ℕ) → i ≤ j → List·Memᴰ j (setOf flags) → List·Memᴰ b (leaves store (agentAt sc j)) → List·Memᴰ b (setOf awake)
+
+  pub ending-none : (i : ℕ) → i ≡ length (sc .agents) → Ending i 0 (replicate 1024 false)
+  ending-none i all = record {
+    few = omega arith;
     long = length-replicate 1024 false;
+    free = λ j le m. ap isAbort (List·getD-eq-default (sc .agents) Skip (omega arith));
+    counts = omega (arith, ap (λ n. length (keep reduced (below n))) all);
     sound = λ b m. absurd (elim (subst (λ l. List·Memᴰ b l) (setOf-none 1024) m) [ ]);
-    whole = λ j b le lt m k. let e : agentAt sc j ≡ Skip = List·getD-eq-default (sc .agents) Skip (omega arith) in absurd (elim (subst (λ a. List·Memᴰ b (leaves store a)) e k) [ ]);
+    whole = λ j b le m k. let e : agentAt sc j ≡ Skip = List·getD-eq-default (sc .agents) Skip (omega arith) in absurd (elim (subst (λ a. List·Memᴰ b (leaves store a)) e k) [ ]);
   }
 
-  pub woken-all : (i : ℕ) (awake : List Bool) → i ≤ 0 → Woken i awake → awake ≡ flagsOf 1024 (leftAwake sc store (setOf flags))
-  woken-all i awake z w = flags-settled 1024 (leftAwake sc store (setOf flags)) awake (w .long)
-      (λ b lt. (w .sound b, λ m. let x = awake-member sc store (setOf flags) m in w .whole (x .0) b (omega arith) lt (x .1) (x .2)))
-
-  module _ (i k : ℕ) (awake : List Bool) (next : i ≤ k + 1) (w : Woken i awake) where
-    -- agent k leaves nothing that has a flag
-    woken-still : ((b : ℕ) → b < 1024 → List·Memᴰ k (setOf flags) → List·Memᴰ b (leaves store (agentAt sc k)) → ⊥) → Woken k awake
-    woken-still none = record {
-      long = w .long;
-      sound = w .sound;
-      whole = λ j b le lt m left. go j b le lt m left (ℕ-discrete j k);
-    }
+  module _ (i count : ℕ) (awake : List Bool) (z : i ≤ 0) (h : Ending i count awake) where
+    pub ending-free : false ≡ Aborting
+    ending-free = go Aborting refl
       where
-        go : (j b : ℕ) → k ≤ j → b < 1024 → List·Memᴰ j (setOf flags) → List·Memᴰ b (leaves store (agentAt sc j)) → Dec (j ≡ k) → List·Memᴰ b (setOf awake)
-        go j b le lt m left (yes e) = absurd (none b lt (subst (λ n. List·Memᴰ n (setOf flags)) e m) (subst (λ n. List·Memᴰ b (leaves store (agentAt sc n))) e left))
-        go j b le lt m left (no n) = w .whole j b (omega arith) lt m left
+        go : (b : Bool) → Aborting ≡ b → false ≡ Aborting
+        go true e = let x = any-some (λ j. isAbort (agentAt sc j)) (setOf flags) e in absurd (true-is-false (x .2) (h .free (x .0) (omega arith) (x .1)))
+        go false e = sym e
 
-    pub woken-by : getD flags k false ≡ false → Woken k awake
-    woken-by e = woken-still (λ b lt m left. true-is-false (member-flag flags m) e)
+    pub ending-count : count ≡ length (reducedOf sc store (setOf flags))
+    ending-count = let e : i ≡ 0 = omega arith in omega (arith, h .counts, ap (λ n. length (keep reduced (below n))) e)
 
-    module _ (r : ℕ) (is : r ≡ getD (leaves store (agentAt sc k)) 0 1024) where
-      pub woken-bare : 1024 ≤ r → Woken k awake
-      woken-bare h = woken-still (λ b lt m left. let e = only-first (leaves store (agentAt sc k)) 1024 b (leaves-few store (agentAt sc k)) left in omega arith)
+    pub ending-awake : awake ≡ flagsOf 1024 (leftAwake sc store (setOf flags))
+    ending-awake = flags-settled 1024 (leftAwake sc store (setOf flags)) awake (h .long)
+        (λ b lt. (h .sound b, λ m. let x = awake-member sc store (setOf flags) m in h .whole (x .0) b (omega arith) (x .1) (x .2)))
 
-      pub woken-marked : getD flags k false ≡ true → r < 1024 → Woken k (set awake r true)
-      woken-marked here few = record {
-        long = length-set awake r true ∙ w .long;
-        sound = λ b m. ⊎-elim (λ (e : b ≡ r). subst⁻¹ (λ n. List·Memᴰ n (leftAwake sc store (setOf flags))) e left-awake) (λ (m′ : List·Memᴰ b (setOf awake)). w .sound b m′) (set-cases awake r m);
-        whole = λ j b le lt m left. go j b le lt m left (ℕ-discrete j k);
-      }
-        where
-          left-awake : List·Memᴰ r (leftAwake sc store (setOf flags))
-          left-awake = member-awake sc store (flag-member flags here) (subst⁻¹ (λ n. List·Memᴰ n (leaves store (agentAt sc k))) is (first-in (leaves store (agentAt sc k)) 1024 (omega arith)))
+-- agent k is read
+pub record Reading (sc : Score) (store : List ℕ) (flags : List Bool) (k count : ℕ) (awake : List Bool) : Type 0 where
+  pub ending : Ending sc store flags (k + 1) count awake
 
-          go : (j b : ℕ) → k ≤ j → b < 1024 → List·Memᴰ j (setOf flags) → List·Memᴰ b (leaves store (agentAt sc j)) → Dec (j ≡ k) → List·Memᴰ b (setOf (set awake r true))
-          go j b le lt m left (yes e) =
-              let q : b ≡ r = only-first (leaves store (agentAt sc k)) 1024 b (leaves-few store (agentAt sc k)) (subst (λ n. List·Memᴰ b (leaves store (agentAt sc n))) e left) ∙ sym is in
-              subst⁻¹ (λ n. List·Memᴰ n (setOf (set awake r true))) q (set-here awake r (omega (arith, w .long)))
-          go j b le lt m left (no n) = set-kept awake r (w .whole j b (omega arith) lt m left)
+module _ {sc : Score} {store : List ℕ} {flags : List Bool} {k count : ℕ} {awake : List Bool} (r : Reading sc store flags k count awake) where
+  -- agent k, with the count and the flags after it
+  step : (b : Bool) (count′ : ℕ) (awake′ : List Bool) → reduced sc store flags k ≡ b → count′ ≡ cond b 1 0 + count → count′ ≤ count + 1 → length awake′ ≡ 1024 →
+      (List·Memᴰ k (setOf flags) → isAbort (agentAt sc k) ≡ false) →
+      ((x : ℕ) → List·Memᴰ x (setOf awake) → List·Memᴰ x (setOf awake′)) →
+      ((x : ℕ) → List·Memᴰ x (setOf awake′) → List·Memᴰ x (leftAwake sc store (setOf flags))) →
+      ((x : ℕ) → List·Memᴰ k (setOf flags) → List·Memᴰ x (leaves store (agentAt sc k)) → List·Memᴰ x (setOf awake′)) → Ending sc store flags k count′ awake′
+  step b count′ awake′ test sum few long free keeps sound whole = record {
+    few = let l : count + (k + 1) ≤ length (sc .agents) = r .ending .few in omega arith;
+    long = long;
+    free = λ j le m. go-free j le m (ℕ-discrete j k);
+    counts = let all = r .ending .counts in omega (arith, counted (reduced sc store flags) k b test);
+    sound = sound;
+    whole = λ j x le m left. go-whole j x le m left (ℕ-discrete j k);
+  }
+    where
+      go-free : (j : ℕ) → k ≤ j → List·Memᴰ j (setOf flags) → Dec (j ≡ k) → isAbort (agentAt sc j) ≡ false
+      go-free j le m (yes e) = subst⁻¹ (λ n. isAbort (agentAt sc n) ≡ false) e (free (subst (λ n. List·Memᴰ n (setOf flags)) e m))
+      go-free j le m (no n) = r .ending .free j (omega arith) m
+
+      go-whole : (j x : ℕ) → k ≤ j → List·Memᴰ j (setOf flags) → List·Memᴰ x (leaves store (agentAt sc j)) → Dec (j ≡ k) → List·Memᴰ x (setOf awake′)
+      go-whole j x le m left (yes e) = whole x (subst (λ n. List·Memᴰ n (setOf flags)) e m) (subst (λ n. List·Memᴰ x (leaves store (agentAt sc n))) e left)
+      go-whole j x le m left (no n) = keeps x (r .ending .whole j x (omega arith) m left)
+
+  pub ending-by : getD flags k false ≡ false → Ending sc store flags k count awake
+  ending-by out = step false count awake (ap (λ x. x && reducible store (agentAt sc k)) (sym (flag-has flags k) ∙ out)) (omega arith) (omega arith) (r .ending .long)
+      (λ m. absurd (true-is-false (member-flag flags m) out)) (λ x m. m) (r .ending .sound) (λ x m left. absurd (true-is-false (member-flag flags m) out))
+
+  module _ (here : getD flags k false ≡ true) (no-abort : isAbort (agentAt sc k) ≡ false) where
+    test : (b : Bool) → reducible store (agentAt sc k) ≡ b → reduced sc store flags k ≡ b
+    test b e = ap₂ _&&_ (sym (flag-has flags k) ∙ here) e
+
+    module _ (bare : leaves store (agentAt sc k) ≡ []) where
+      none : (x : ℕ) → List·Memᴰ x (leaves store (agentAt sc k)) → List·Memᴰ x (setOf awake)
+      none x left = absurd (elim (subst (λ l. List·Memᴰ x l) bare left) [ ])
+
+      pub ending-reduced : reducible store (agentAt sc k) ≡ true → Ending sc store flags k (count + 1) awake
+      ending-reduced e = step true (count + 1) awake (test true e) (omega arith) (omega arith) (r .ending .long) (λ m. no-abort) (λ x m. m) (r .ending .sound) (λ x m left. none x left)
+
+      pub ending-waits : reducible store (agentAt sc k) ≡ false → Ending sc store flags k count awake
+      ending-waits e = step false count awake (test false e) (omega arith) (omega arith) (r .ending .long) (λ m. no-abort) (λ x m. m) (r .ending .sound) (λ x m left. none x left)
+
+    pub ending-left : (b : ℕ) → b < 1024 → leaves store (agentAt sc k) ≡ b ∷ [] → reducible store (agentAt sc k) ≡ false → Ending sc store flags k count (set awake b true)
+    ending-left b few one e = step false count (set awake b true) (test false e) (omega arith) (omega arith) (length-set awake b true ∙ r .ending .long) (λ m. no-abort) (λ x m. set-kept awake b m)
+        (λ x m. ⊎-elim (λ (p : x ≡ b). subst⁻¹ (λ n. List·Memᴰ n (leftAwake sc store (setOf flags))) p left-awake) (λ (m′ : List·Memᴰ x (setOf awake)). r .ending .sound x m′) (set-cases awake b m))
+        (λ x m left. ⊎-elim (λ (p : x ≡ b). subst⁻¹ (λ n. List·Memᴰ n (setOf (set awake b true))) p (set-here awake b (omega (arith, r .ending .long)))) (λ (m′ : List·Memᴰ x []). absurd (elim m′ [ ])) (List·Memᴰ·cases-cons (subst (λ l. List·Memᴰ x l) one left)))
+      where
+        left-awake : List·Memᴰ b (leftAwake sc store (setOf flags))
+        left-awake = member-awake sc store (flag-member flags here) (subst⁻¹ (λ l. List·Memᴰ b l) one (List·Memᴰ·head refl))

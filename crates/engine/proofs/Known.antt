@@ -4,6 +4,7 @@
 --     roots-whole        it has as many procedures as the head says
 --     token-few          a token that an agent names has a flag
 --     procedure-known    a procedure that an agent calls is one of the score's
+--     part-lower         a body or half has a lower number than its agent
 --     flag-has           a flag says whether its number is in the set
 use mathlib.Core.Path.{_≡_, refl, sym, ap, subst⁻¹, _∙_}
 use mathlib.Core.Bool.{Bool, true, false}
@@ -12,7 +13,8 @@ use Prim.Native.Nat.{ℕ, _<_, _≤_}
 use native.Mathlib.Omega.{arith}
 use lib.ListN.{length, getD}
 use Rattle.tcc.specs.Sets.{has}
-use Rattle.tcc.specs.Score.{agentAt, tokensOf, proceduresOf}
+use Rattle.tcc.specs.Score.{Score, agentAt, tokensOf, partsOf, proceduresOf}
+use Rattle.tcc.specs.Lawful.{Lawful}
 use Rattle.tcc.specs.declared.Agent.{Agent}
 use Rattle.tcc.proofs.Sets.{true-is-false, member-has, not-has}
 use Rattle.format.specs.Decode.{sizes, decode}
@@ -42,6 +44,9 @@ module _ {s : List ℕ} (p : Playable s) where
   procedure-known i {q} {a} e m =
       let h : q < length (decode s .roots) = p .lawful .procedures-known i q (subst⁻¹ (λ x. List·Memᴰ q (proceduresOf x)) e m) in
       omega (arith, roots-whole)
+
+pub part-lower : {sc : Score} → Lawful sc → (i b : ℕ) {a : Agent} → agentAt sc i ≡ a → List·Memᴰ b (partsOf a) → b < i
+part-lower {sc} lawful i b e m = lawful .parts-lower i b (subst⁻¹ (λ x. List·Memᴰ b (partsOf x)) e m)
 
 pub flag-has : (flags : List Bool) (i : ℕ) → getD flags i false ≡ has i (setOf flags)
 flag-has flags i = go (getD flags i false) refl

@@ -1,7 +1,7 @@
 pub mod Known
+pub mod Closing
 pub mod Others
-pub mod LivePass
-pub mod Answers
-pub mod TellPass
+pub mod Passing
 pub mod Settling
+pub mod Answers
 pub mod Outcomes

@@ -1,21 +1,23 @@
--- Passes until no agent comes alive any more.
---     Settling           marks that passes have added to
---     settling-none, settling-more     there was none; there was one more of each kind
+-- Passes until there is nothing to add.
+--     Settling           marks that passes have added to, with the store closed after each
+--     settling-none, settling-more     there was none; there was one more
 --     starts-sound       the agents and the closed inputs that an instant starts with are sound marks
---     settled            where the last pass marked no agent, the marks are the least fixed point
-use mathlib.Core.Path.{_≡_, subst}
-use mathlib.Core.Bool.{Bool, false, cond}
+--     settled            after a pass that needs no other, the marks are the least fixed point
+use mathlib.Core.Path.{_≡_, subst, subst⁻¹}
+use mathlib.Core.Bool.{Bool, false}
 use mathlib.Core.List.{List, List·Memᴰ}
 use Prim.Native.Nat.{ℕ}
+use native.Mathlib.Omega.{arith}
 use Rattle.tcc.specs.Score.{Score, agentAt}
 use Rattle.tcc.specs.Lawful.{Lawful}
 use Rattle.tcc.specs.Store.{closure}
 use Rattle.tcc.specs.FixedPoint.{Marked, Sound}
-use Rattle.tcc.proofs.Sets.{member-has}
+use Rattle.tcc.specs.declared.Agent.{Agent}
 use Rattle.tcc.proofs.FixedPoint.{reach}
 use Rattle.store.specs.Flags.{setOf, flagsOf}
-use Rattle.engine.specs.Marks.{both, brings, Shut, Spreads, Tells, Fixed}
-use Rattle.engine.proofs.TellPass.{closed-reached}
+use Rattle.store.proofs.Flags.{member-within}
+use Rattle.engine.specs.Marks.{Served, Passed, Shut, Fixed}
+use Rattle.engine.proofs.Closing.{closed-shut, closed-above, closed-reached}
 
 module _ (sc : Score) where
   pub record Settling (live₀ held₀ live held : List ℕ) : Type 0 where
@@ -33,31 +35,37 @@ module _ (sc : Score) where
     holds = closed-reached sc lawful inputs agents inputs (reach sc agents inputs .told);
   }
 
-  module _ (live₀ held₀ live held live′ held′ : List ℕ) (grew : Bool) (h : Settling live₀ held₀ live held) (tells : Tells sc live held held′) (spreads : Spreads sc held′ live live′ grew) where
-    pub settling-more : Settling live₀ held₀ live′ held′
-    settling-more = record {
-      sound = λ agents inputs s. spreads .sound agents inputs (tells .sound agents inputs (h .sound agents inputs s));
-      begins = λ i m. spreads .keeps i (h .begins i m);
-      told = λ t m. tells .keeps t (h .told t m);
-      shut = tells .shut (h .shut);
+  module _ (live₀ held₀ : List ℕ) (live held live′ held′ : List Bool) (grew : Bool) (h : Settling live₀ held₀ (setOf live) (setOf held)) (passed : Passed sc 0 live held live′ held′ grew) where
+    pub settling-more : Lawful sc → (closed : List Bool) → closed ≡ flagsOf 256 (closure sc (setOf held′)) → Settling live₀ held₀ (setOf live′) (setOf closed)
+    settling-more lawful closed e = subst⁻¹ (λ l. Settling live₀ held₀ (setOf live′) (setOf l)) e record {
+      sound = λ agents inputs s. let s′ = passed .sound agents inputs (h .sound agents inputs s) in record {
+        lives = s′ .lives;
+        holds = closed-reached sc lawful (setOf held′) agents inputs (s′ .holds);
+      };
+      begins = λ i m. passed .keeps-live i (h .begins i m);
+      told = λ t m. let k = passed .keeps-held t (h .told t m) in closed-above sc lawful (setOf held′) t (omega (arith, member-within held′ k, passed .long-held)) k;
+      shut = closed-shut sc lawful (setOf held′);
     }
 
-    module _ (still : grew ≡ false) (inputs : List ℕ) (starts : Sound sc live₀ inputs (Marked live₀) (Marked held₀)) (takes : (t : ℕ) → List·Memᴰ t inputs → List·Memᴰ t held₀) where
-      -- what agent i makes live is live
-      calm : (i : ℕ) → List·Memᴰ i live′ → List·Memᴰ (brings sc held′ i (agentAt sc i) .first) live′ × List·Memᴰ (brings sc held′ i (agentAt sc i) .second) live′
-      calm = spreads .calm still .1
+    module _ (last : grew ≡ false) (inputs : List ℕ) (starts : Sound sc live₀ inputs (Marked live₀) (Marked held₀)) (takes : (t : ℕ) → List·Memᴰ t inputs → List·Memᴰ t held₀) where
+      -- a live agent has had its effect
+      served : (i : ℕ) {a : Agent} → List·Memᴰ i (setOf live′) → agentAt sc i ≡ a → Served sc (setOf live′) (setOf held′) a
+      served i {a} m e = subst (Served sc (setOf live′) (setOf held′)) e (passed .served last i (omega arith) m)
 
-      pub settled : Fixed sc live₀ inputs live′ held′
+      shut : Shut sc (setOf held′)
+      shut = subst⁻¹ (λ l. Shut sc (setOf l)) (passed .still last) (h .shut)
+
+      pub settled : Fixed sc live₀ inputs (setOf live′) (setOf held′)
       settled = record {
-        sound = settling-more .sound live₀ inputs starts;
+        sound = passed .sound live₀ inputs (h .sound live₀ inputs starts);
         closed = record {
-          begins = settling-more .begins;
-          told = λ t m. settling-more .told t (takes t m);
-          tells = λ i t m e. tells .told i t (subst (λ l. List·Memᴰ i l) (spreads .calm still .0) m) e;
-          splits = λ i a b m e. subst (λ x. List·Memᴰ (brings sc held′ i x .first) live′ × List·Memᴰ (brings sc held′ i x .second) live′) e (calm i m);
-          calls = λ i p m e. subst (λ x. List·Memᴰ (brings sc held′ i x .first) live′) e (calm i m .0);
-          awaits = λ i t b m e k. subst (λ x. List·Memᴰ (cond x (both b b) (both i i) .first) live′) (member-has k) (subst (λ x. List·Memᴰ (brings sc held′ i x .first) live′) e (calm i m .0));
-          rules = settling-more .shut .rules;
-          clash = settling-more .shut .clash;
+          begins = λ i m. passed .keeps-live i (h .begins i m);
+          told = λ t m. passed .keeps-held t (h .told t (takes t m));
+          tells = λ i t m e. served i m e;
+          splits = λ i a b m e. served i m e;
+          calls = λ i p m e. served i m e;
+          awaits = λ i t b m e. served i m e;
+          rules = shut .rules;
+          clash = shut .clash;
         };
       }

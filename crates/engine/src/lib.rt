@@ -1,14 +1,15 @@
 ghost use mathlib.Core.Path.{_≡_};
+ghost use lib.ListN.{length};
 ghost use Rattle.tcc.specs.Instant.{instant};
 ghost use Rattle.format.specs.Decode.{sizes, decode};
 ghost use Rattle.store.specs.Flags.{setOf};
 ghost use Rattle.store.specs.Playable.{Playable};
-ghost use Rattle.engine.specs.Marks.{Spreads, Tells, Fixed};
+ghost use Rattle.engine.specs.Marks.{Passed, Fixed};
 ghost use Rattle.engine.specs.Outcome.{outcomeOf};
 use store::Agents;
 use store::Tokens;
+use tcc::Agent;
 
-mod agents;
 mod ending;
 
 use format::Sizes;
@@ -27,10 +28,10 @@ pub fn play(s: &[u8], head: Sizes, agents: Agents, inputs: Tokens) -> Outcome
     requires { ⌜ Playable (now s) ⌝ }
     ensures { λ r. ⌜ r ≡ outcomeOf (instant (decode (now (s .entry))) (setOf agents) (setOf inputs)) ⌝ }
 {
-    let marks = settle(s, head, agents, inputs);
-    let live = marks.live;
-    let held = marks.held;
-    if ending::aborts(s, head, &live) {
+    let mut live = agents;
+    let held = settle(s, head, &mut live, inputs);
+    let end = ending::end_of(s, head, &live, &held);
+    if end.aborted {
         Outcome {
             status: 2,
             count: 0,
@@ -39,8 +40,8 @@ pub fn play(s: &[u8], head: Sizes, agents: Agents, inputs: Tokens) -> Outcome
         }
     } else {
         let status = if held[0] { 1 } else { 0 };
-        let count = ending::count_reduced(s, head, &live, &held);
-        let awake = ending::wake(s, head, &live, &held);
+        let count = end.count;
+        let awake = end.awake;
         Outcome {
             status,
             count,
@@ -50,79 +51,60 @@ pub fn play(s: &[u8], head: Sizes, agents: Agents, inputs: Tokens) -> Outcome
     }
 }
 
-// The agents that are live after a pass, and whether the pass marked any.
-struct Live {
-    live: Agents,
-    grew: bool,
-}
-
-// The agents that are live and the tokens that are held.
-struct Marks {
-    live: Agents,
-    held: Tokens,
-}
-
-// One pass over the agents, from the highest on: a body or half has a lower number than its agent, so that a mark goes
-// all the way down.
-fn spread(s: &[u8], head: Sizes, given: Agents, held: &Tokens) -> Live
+// Passes until there is nothing to add; marks the agents that come alive, and returns the tokens held.
+fn settle(s: &[u8], head: Sizes, live: &mut Agents, inputs: Tokens) -> Tokens
     requires { ⌜ head ≡ sizes (now s) ⌝ }
     requires { ⌜ Playable (now s) ⌝ }
-    ensures { λ r. ⌜ Spreads (decode (now (s .entry))) (setOf (now (held .entry))) (setOf given) (setOf (r .live)) (r .grew) ⌝ }
+    requires { ⌜ length (now live) ≡ 1024 ⌝ }
+    ensures { λ r. ⌜ Fixed (decode (now (s .entry))) (setOf (now (live .entry))) (setOf inputs) (setOf (now (live .exit))) (setOf r) ⌝ }
 {
-    let mut live = given;
+    let mut held = store::closed(s, head, inputs);
+    while pass(s, head, live, &mut held) {
+        held = store::closed(s, head, held);
+    }
+    held
+}
+
+// One pass over the agents, from the highest on, in which each live agent has its effect: a body or half has a lower
+// number than its agent, so that a mark goes all the way down. Says whether another pass may find more.
+fn pass(s: &[u8], head: Sizes, live: &mut Agents, held: &mut Tokens) -> bool
+    requires { ⌜ head ≡ sizes (now s) ⌝ }
+    requires { ⌜ Playable (now s) ⌝ }
+    requires { ⌜ length (now live) ≡ 1024 ⌝ }
+    requires { ⌜ length (now held) ≡ 256 ⌝ }
+    ensures { λ r. ⌜ Passed (decode (now (s .entry))) 0 (now (live .entry)) (now (held .entry)) (now (live .exit)) (now (held .exit)) r ⌝ }
+{
     let mut grew = false;
     let mut i = head.agents;
     while 0 < i {
         i -= 1;
         if live[i] {
-            let brought = agents::effect(s, head, i, held);
-            let first = brought.first;
-            grew = grew | !live[first];
-            live[first] = true;
-            let second = brought.second;
-            grew = grew | !live[second];
-            live[second] = true;
-        }
-    }
-    Live { live, grew }
-}
-
-// One pass over the agents that takes up the token of each live tell.
-fn tell(s: &[u8], head: Sizes, live: &Agents, given: Tokens) -> Tokens
-    requires { ⌜ head ≡ sizes (now s) ⌝ }
-    requires { ⌜ Playable (now s) ⌝ }
-    ensures { λ r. ⌜ Tells (decode (now (s .entry))) (setOf (now (live .entry))) (setOf given) (setOf r) ⌝ }
-{
-    let mut held = given;
-    let mut i = head.agents;
-    while 0 < i {
-        i -= 1;
-        if live[i] {
-            let token = agents::told(s, i);
-            if token < 256 {
-                if !held[token] {
-                    held = store::take_up(s, head, held, token);
+            match format::agent_at(s, i) {
+                Agent::Tell(token) => {
+                    if !held[token] {
+                        held[token] = true;
+                        grew = true;
+                    }
                 }
+                Agent::Parallel(a, b) => {
+                    live[a] = true;
+                    live[b] = true;
+                }
+                Agent::When(token, body) => {
+                    if held[token] {
+                        live[body] = true;
+                    }
+                }
+                Agent::Call(procedure) => {
+                    let root = format::root_of(s, head.agents, procedure);
+                    if !live[root] {
+                        live[root] = true;
+                        grew = true;
+                    }
+                }
+                _ => {}
             }
         }
     }
-    held
-}
-
-// Passes until no agent comes alive any more.
-fn settle(s: &[u8], head: Sizes, agents: Agents, inputs: Tokens) -> Marks
-    requires { ⌜ head ≡ sizes (now s) ⌝ }
-    requires { ⌜ Playable (now s) ⌝ }
-    ensures { λ r. ⌜ Fixed (decode (now (s .entry))) (setOf agents) (setOf inputs) (setOf (r .live)) (setOf (r .held)) ⌝ }
-{
-    let mut live = agents;
-    let mut held = store::closed(s, head, inputs);
-    loop {
-        held = tell(s, head, &live, held);
-        let pass = spread(s, head, live, &held);
-        live = pass.live;
-        if !pass.grew {
-            return Marks { live, held };
-        }
-    }
+    grew
 }

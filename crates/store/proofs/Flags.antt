@@ -7,26 +7,25 @@
 --     set-kept           a flag set keeps the members
 --     set-here           brings its own number
 --     set-cases          and no other
---     set-same           so the members are those before and its own number
---     set-longer         which is one member more, if it was not in
+--     set-longer         it is one member more, if it was not in
 --     set-length-le      no more members than flags
+--     set-more           as many flags that have every member have no fewer
 --     setOf-none         where no flag is set, no members
 --     flagsOf-length, flagsOf-flag       a set's flags: n of them, flag i says whether i is in
 --     flagsOf-member, flagsOf-within, member-flagsOf     their members are the set's below n
 --     flags-settled      flags with the set's members below n are the set's flags
---     flagsOf-same       equal sets have equal flags
 use mathlib.Core.Path.{_≡_, refl, sym, ap, _∙_}
 use mathlib.Core.Bool.{Bool, true, false, cond}
 use mathlib.Core.List.{List, [], _∷_, _++_, map, List·Memᴰ, List·Memᴰ·head, List·Memᴰ·tail}
-use mathlib.Core.Logic.{_⊎_, inl, inr, ⊎-elim, by-cases}
+use mathlib.Core.Logic.{_⊎_, inl, inr, by-cases}
 use Prim.Native.Nat.{ℕ, zero, suc, _≤_, _<_}
 use native.Mathlib.Nat.{not-suc-le-zero, le-of-suc-le-suc}
 use native.Mathlib.Decide.{decLt, ℕ-discrete}
 use native.Mathlib.Omega.{arith}
 use lib.ListN.{length, getD, set, replicate, length-append, length-set, length-map, length-replicate, getD-replicate, List·getD-eq-default, List·getD-append}
 use lib.Seq.{getD-set-same, getD-set-other, getD-at, ext-getD}
-use Rattle.tcc.specs.Sets.{Same, below, keep, has}
-use Rattle.tcc.proofs.Sets.{Within, true-is-false, on-cons, on-keep, keep-kept, keep-agrees, below-lt, lt-below, has-member, member-has, not-has}
+use Rattle.tcc.specs.Sets.{below, keep, has}
+use Rattle.tcc.proofs.Sets.{Within, Among, true-is-false, on-keep, keep-kept, keep-agrees, below-lt, lt-below, has-member, member-has, not-has}
 use Rattle.store.specs.Flags.{setOf, flagsOf}
 
 module _ {A : Type 0} (f : A → Bool) where
@@ -49,6 +48,16 @@ module _ {A : Type 0} (f : A → Bool) where
       go : (b : Bool) → length (keep f l) ≤ length l → length (cond b (x ∷ keep f l) (keep f l)) ≤ suc (length l)
       go true h = omega arith
       go false h = omega arith
+
+  keep-more : (g : A → Bool) (l : List A) → Within (λ x. f x ≡ true → g x ≡ true) l → length (keep f l) ≤ length (keep g l)
+  keep-more g [] h = omega arith
+  keep-more g (x ∷ l) h = go (f x) (g x) (h x (List·Memᴰ·head refl)) (keep-more g l (λ y m. h y (List·Memᴰ·tail m)))
+    where
+      go : (b c : Bool) → (b ≡ true → c ≡ true) → length (keep f l) ≤ length (keep g l) → length (cond b (x ∷ keep f l) (keep f l)) ≤ length (cond c (x ∷ keep g l) (keep g l))
+      go true true e rest = omega arith
+      go true false e rest = absurd (true-is-false (e refl) refl)
+      go false true e rest = omega arith
+      go false false e rest = rest
 
 pub below-length : (n : ℕ) → length (below n) ≡ n
 below-length zero = refl
@@ -101,6 +110,14 @@ module _ (flags : List Bool) where
   unfolding setOf
   set-length-le = omega (arith, keep-few (λ j. getD flags j false) (below (length flags)), below-length (length flags))
 
+pub set-more : (flags more : List Bool) → length more ≡ length flags → Among (setOf flags) (setOf more) → length (setOf flags) ≤ length (setOf more)
+unfolding setOf
+set-more flags more long h = omega (
+  arith,
+  keep-more (λ j. getD flags j false) (λ j. getD more j false) (below (length flags)) (λ j m e. member-flag more (h j (flag-member flags e))),
+  ap (λ n. length (keep (λ j. getD more j false) (below n))) long,
+)
+
 module _ (flags : List Bool) (i : ℕ) where
   pub set-kept : {j : ℕ} → List·Memᴰ j (setOf flags) → List·Memᴰ j (setOf (set flags i true))
   set-kept {j} m = flag-member (set flags i true) (go (ℕ-discrete j i))
@@ -118,12 +135,6 @@ module _ (flags : List Bool) (i : ℕ) where
       go : Dec (j ≡ i) → (j ≡ i) ⊎ List·Memᴰ j (setOf flags)
       go (yes e) = inl e
       go (no n) = inr (flag-member flags (sym (getD-set-other flags i j true false n) ∙ member-flag (set flags i true) m))
-
-  pub set-same : i < length flags → Same (setOf (set flags i true)) (i ∷ setOf flags)
-  set-same h j = (
-    λ m. ⊎-elim (λ (e : j ≡ i). List·Memᴰ·head e) (λ (k : List·Memᴰ j (setOf flags)). List·Memᴰ·tail k) (set-cases m),
-    λ m. on-cons (set-here h) (λ x k. set-kept k) j m,
-  )
 
   pub set-longer : i < length flags → getD flags i false ≡ false → length (setOf (set flags i true)) ≡ suc (length (setOf flags))
   unfolding setOf
@@ -162,6 +173,3 @@ module _ (n : ℕ) (l : List ℕ) where
       go : (i : ℕ) → (List·Memᴰ i (setOf flags) → List·Memᴰ i l) → (List·Memᴰ i l → List·Memᴰ i (setOf flags)) → (b : Bool) → getD flags i false ≡ b → getD flags i false ≡ has i l
       go i to from true e = e ∙ sym (member-has (to (flag-member flags e)))
       go i to from false e = e ∙ sym (not-has (λ m. true-is-false (member-flag flags (from m)) e))
-
-pub flagsOf-same : (n : ℕ) {l k : List ℕ} → Same l k → flagsOf n l ≡ flagsOf n k
-flagsOf-same n {l} {k} same = flags-settled n k (flagsOf n l) (flagsOf-length n l) (λ i h. (λ m. same i .0 (flagsOf-member n l m), λ m. member-flagsOf n l h (same i .1 m)))

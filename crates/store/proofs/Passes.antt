@@ -11,7 +11,7 @@
 --     passing-all        past the last word the pass is done
 --     flooded-none, flooded-more     tokens brought in one by one, from 0 on
 use mathlib.Core.Path.{_≡_, refl, sym, subst}
-use mathlib.Core.Bool.{Bool, true, false, cond, not, _&&_}
+use mathlib.Core.Bool.{Bool, true, false, not, _&&_}
 use mathlib.Core.List.{List, [], _∷_, List·Memᴰ, List·Memᴰ·head, List·Memᴰ·tail, Memᴰ·cast}
 use mathlib.Core.Logic.{inl, inr, ⊎-elim, by-cases}
 use Prim.Native.Nat.{ℕ, zero, suc, _+_, _-_, _≤_, _<_}
@@ -72,14 +72,14 @@ module _ (store : List Bool) (w : ℕ) where
       go true h = refl
       go false h = absurd (true-is-false refl h)
 
-pub record Passing (s : List ℕ) (k : ℕ) (before after : List Bool) (grew : Bool) : Type 0 where
+pub record Passing (s : List ℕ) (k : ℕ) (before after : List Bool) (added : ℕ) : Type 0 where
   pub long : length after ≡ 256
   pub kept : (t : ℕ) → List·Memᴰ t (setOf before) → List·Memᴰ t (setOf after)
   pub derived : (given : List ℕ) → Within (Derived (decode s) given) (setOf before) → Within (Derived (decode s) given) (setOf after)
-  pub larger : length (setOf before) + cond grew 1 0 ≤ length (setOf after)
-  pub settled : grew ≡ false → (j : ℕ) → rulesFrom s ≤ j → j < k → Passes (λ t. List·Memᴰ t (setOf after)) (ruleOf (wordAt s j))
+  pub larger : length (setOf before) + added ≤ length (setOf after)
+  pub settled : added ≡ 0 → (j : ℕ) → rulesFrom s ≤ j → j < k → Passes (λ t. List·Memᴰ t (setOf after)) (ruleOf (wordAt s j))
 
-pub passing-none : (s : List ℕ) (k : ℕ) (store : List Bool) → k ≡ rulesFrom s → length store ≡ 256 → Passing s k store store false
+pub passing-none : (s : List ℕ) (k : ℕ) (store : List Bool) → k ≡ rulesFrom s → length store ≡ 256 → Passing s k store store 0
 passing-none s k store start long = record {
   long = long;
   kept = λ t m. m;
@@ -88,8 +88,8 @@ passing-none s k store start long = record {
   settled = λ e j from lt. absurd (omega arith);
 }
 
-module _ (s : List ℕ) (k : ℕ) (before after : List Bool) (grew : Bool) (h : Passing s k before after grew) where
-  pub passing-skipped : adds after (wordAt s k) ≡ false → Passing s (k + 1) before after grew
+module _ (s : List ℕ) (k : ℕ) (before after : List Bool) (added : ℕ) (h : Passing s k before after added) where
+  pub passing-skipped : adds after (wordAt s k) ≡ false → Passing s (k + 1) before after added
   passing-skipped e = record {
     long = h .long;
     kept = h .kept;
@@ -100,7 +100,7 @@ module _ (s : List ℕ) (k : ℕ) (before after : List Bool) (grew : Bool) (h : 
         (λ g. let here : k ≡ j = omega arith in subst (λ i. Passes (λ t. List·Memᴰ t (setOf after)) (ruleOf (wordAt s i))) here (adds-nothing after (wordAt s k) e));
   }
 
-  pub passing-added : rulesFrom s ≤ k → k < length (words s) → adds after (wordAt s k) ≡ true → Passing s (k + 1) before (set after (field (wordAt s k) 0 8) true) true
+  pub passing-added : rulesFrom s ≤ k → k < length (words s) → adds after (wordAt s k) ≡ true → Passing s (k + 1) before (set after (field (wordAt s k) 0 8) true) (added + 1)
   passing-added from within e =
       let token = field (wordAt s k) 0 8 in
       let room : token < length after = omega (arith, h .long, field-below (wordAt s k) 0 8) in
@@ -112,10 +112,10 @@ module _ (s : List ℕ) (k : ℕ) (before after : List Bool) (grew : Bool) (h : 
             (λ (m′ : List·Memᴰ t (setOf after)). h .derived given start t m′)
             (set-cases after token m);
         larger = let l = h .larger in omega (arith, set-longer after token room (adds-new after (wordAt s k) e));
-        settled = λ still j f lt. absurd (true-is-false refl still);
+        settled = λ still j f lt. absurd (omega arith);
       }
 
-  pub passing-all : length (words s) ≤ k → Passed (decode s) before after grew
+  pub passing-all : length (words s) ≤ k → Passed (decode s) before after added
   passing-all past = record {
     long = h .long;
     kept = h .kept;

@@ -3,20 +3,17 @@
 --     closed-flags       closed under the rules and the clash, they are the closure
 --     closed-calm        without token 0, closed under the rules is enough
 --     closed-clash       with it, the score's tokens all set are the closure
---     closure-same       equal sets have equal closures
 use mathlib.Core.Path.{_≡_}
 use mathlib.Core.Bool.{Bool, true, false}
 use mathlib.Core.List.{List, List·Memᴰ}
 use mathlib.Core.Logic.{⊎-elim}
 use Prim.Native.Nat.{ℕ, _<_}
 use lib.ListN.{length, getD}
-use lib.Dec.{eqb}
-use Rattle.tcc.specs.Sets.{Same}
 use Rattle.tcc.specs.Score.{Score}
 use Rattle.tcc.specs.Lawful.{Lawful}
 use Rattle.tcc.specs.Store.{Derived, by-clash, storeRules, closure}
 use Rattle.tcc.proofs.Sets.{Within, Among, true-is-false}
-use Rattle.tcc.proofs.Closure.{Follows, close-monotone, eqb-decides}
+use Rattle.tcc.proofs.Closure.{Follows}
 use Rattle.tcc.proofs.Store.{store-follows, derived-least, closure-exact}
 use Rattle.store.specs.Flags.{setOf, flagsOf}
 use Rattle.store.specs.Passes.{Flooded}
@@ -46,10 +43,3 @@ module _ (sc : Score) (given : List ℕ) where
           derived = λ t m. ⊎-elim (λ (l : t < sc .tokens). by-clash (h .derived 0 (flag-member store clash)) l) (λ (k : List·Memᴰ t (setOf store)). h .derived t k) (full .only t m);
         })
         (store-follows sc (λ r m premises. full .filled (r .conclusion) (lawful .conclusions-known r m)) (λ t m l. full .filled t l))
-
-pub closure-same : (sc : Score) {l k : List ℕ} → Same l k → Same (closure sc l) (closure sc k)
-unfolding closure
-closure-same sc {l} {k} same t = (
-  close-monotone eqb eqb-decides (storeRules sc) (storeRules sc) l k (λ r m. m) (λ x m. same x .0 m) t,
-  close-monotone eqb eqb-decides (storeRules sc) (storeRules sc) k l (λ r m. m) (λ x m. same x .1 m) t,
-)

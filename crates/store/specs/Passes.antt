@@ -1,10 +1,10 @@
 -- What the parts of the closure do to a store that is kept as flags.
 --     adds           whether a rule word's rule adds its conclusion: its premises are in, the conclusion is not
---     Passed         a pass over the rules: what was in stays, what comes in derives from it, and whether anything did;
---                    if nothing did, the store is closed under the rules
+--     Passed         a pass over the rules: what was in stays, what comes in derives from it, and how many did; if none
+--                    did, the store is closed under the rules
 --     Flooded        the tokens below n come in, and no others
 use mathlib.Core.Path.{_≡_}
-use mathlib.Core.Bool.{Bool, false, cond, not, _&&_}
+use mathlib.Core.Bool.{Bool, false, not, _&&_}
 use mathlib.Core.List.{List, List·Memᴰ}
 use mathlib.Core.Logic.{_⊎_}
 use Prim.Native.Nat.{ℕ, _+_, _<_, _≤_}
@@ -18,12 +18,12 @@ use Rattle.store.specs.Flags.{setOf}
 abbrev pub adds : List Bool → ℕ → Bool
 adds store w = (getD store (field w 8 8) false && getD store (field w 16 8) false) && not (getD store (field w 0 8) false)
 
-pub record Passed (sc : Score) (before after : List Bool) (grew : Bool) : Type 0 where
+pub record Passed (sc : Score) (before after : List Bool) (added : ℕ) : Type 0 where
   pub long : length after ≡ 256
   pub kept : (t : ℕ) → List·Memᴰ t (setOf before) → List·Memᴰ t (setOf after)
   pub derived : (given : List ℕ) → ((t : ℕ) → List·Memᴰ t (setOf before) → Derived sc given t) → (t : ℕ) → List·Memᴰ t (setOf after) → Derived sc given t
-  pub larger : length (setOf before) + cond grew 1 0 ≤ length (setOf after)
-  pub settled : grew ≡ false → (r : Rule ℕ) → List·Memᴰ r (sc .rules) → ((p : ℕ) → List·Memᴰ p (r .premises) → List·Memᴰ p (setOf after)) → List·Memᴰ (r .conclusion) (setOf after)
+  pub larger : length (setOf before) + added ≤ length (setOf after)
+  pub settled : added ≡ 0 → (r : Rule ℕ) → List·Memᴰ r (sc .rules) → ((p : ℕ) → List·Memᴰ p (r .premises) → List·Memᴰ p (setOf after)) → List·Memᴰ (r .conclusion) (setOf after)
 
 pub record Flooded (n : ℕ) (before after : List Bool) : Type 0 where
   pub long : length after ≡ 256

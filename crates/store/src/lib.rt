@@ -1,6 +1,5 @@
 ghost use mathlib.Core.Path.{_≡_};
-ghost use mathlib.Core.List.{_∷_};
-ghost use Prim.Native.Nat.{_+_, _<_, _≤_};
+ghost use Prim.Native.Nat.{_+_, _≤_};
 ghost use lib.ListN.{length};
 ghost use Rattle.tcc.specs.Store.{closure};
 ghost use Rattle.format.specs.Decode.{sizes, decode};
@@ -22,58 +21,46 @@ pub fn closed(s: &[u8], head: Sizes, tokens: Tokens) -> Tokens
 {
     let from = 2 + head.agents + head.procedures;
     let mut store = tokens;
-    let mut grew = true;
-    while grew {
-        grew = rule_pass(s, from, &mut store);
-    }
+    while 0 < rule_pass(s, from, &mut store) {}
     if store[0] {
         flood(head.tokens, &mut store);
     }
     store
 }
 
-// The store with one token taken up.
-pub fn take_up(s: &[u8], head: Sizes, store: Tokens, token: usize) -> Tokens
-    requires { ⌜ head ≡ sizes (now s) ⌝ }
-    requires { ⌜ Playable (now s) ⌝ }
-    requires { ⌜ token < 256 ⌝ }
-    ensures { λ r. ⌜ r ≡ flagsOf 256 (closure (decode (now (s .entry))) (token ∷ setOf store)) ⌝ }
-{
-    let mut told = store;
-    told[token] = true;
-    closed(s, head, told)
-}
-
-// One pass over the rules, which start at a given word; says whether it added a token.
-fn rule_pass(s: &[u8], from: usize, store: &mut Tokens) -> bool
+// One pass over the rules, which start at a given word; returns how many tokens it added.
+fn rule_pass(s: &[u8], from: usize, store: &mut Tokens) -> usize
     requires { ⌜ from ≡ 2 + sizes (now s) .agents + sizes (now s) .procedures ⌝ }
     requires { ⌜ length (now store) ≡ 256 ⌝ }
     ensures { λ r. ⌜ Passed (decode (now (s .entry))) (now (store .entry)) (now (store .exit)) r ⌝ }
 {
     let count = words::word_count(s);
-    let mut grew = false;
+    let mut added = 0;
     let mut k = from;
     while k < count {
         let w = words::word_at(s, k);
         if adds_token(store, w) {
             let token = format::number(w, 0, 8);
             store[token] = true;
-            grew = true;
+            added += 1;
         }
         k += 1;
     }
-    grew
+    added
 }
 
 // Whether the rule of a word adds its conclusion to a store.
 fn adds_token(store: &Tokens, w: u32) -> bool
     ensures { λ r. ⌜ r ≡ adds (now (store .entry)) w ⌝ }
 {
+    let token = format::number(w, 0, 8);
+    if store[token] {
+        return false;
+    }
     let first = format::number(w, 8, 8);
-    let second = format::number(w, 16, 8);
-    if store[first] & store[second] {
-        let token = format::number(w, 0, 8);
-        return !store[token];
+    if store[first] {
+        let second = format::number(w, 16, 8);
+        return store[second];
     }
     false
 }

@@ -1,66 +1,91 @@
 -- `settle`: passes have added to the marks.
-use mathlib.Core.Path.{_≡_, subst⁻¹}
-use Prim.Native.Nat.{_-_}
+use mathlib.Core.Path.{_≡_, sym, ap, subst⁻¹, _∙_}
+use mathlib.Core.Bool.{cond}
+use Prim.Native.Nat.{ℕ, _+_, _-_, _≤_}
 use native.Mathlib.Omega.{arith}
 use lib.ListN.{length}
-use borrow.Author.Tests.{not-true, not-false}
+use Rattle.tcc.specs.Store.{closure}
 use Rattle.tcc.specs.FixedPoint.{Marked, Sound}
 use Rattle.format.specs.Decode.{decode}
-use Rattle.store.specs.Flags.{setOf}
-use Rattle.store.proofs.Flags.{member-within, set-length-le}
+use Rattle.store.specs.Flags.{setOf, flagsOf}
+use Rattle.store.proofs.Flags.{member-within, set-length-le, set-more, flagsOf-length}
 use Rattle.engine.specs.Marks.{Shut}
-use Rattle.engine.proofs.TellPass.{closed-shut, closed-above}
+use Rattle.engine.proofs.Closing.{closed-shut, closed-above}
 use Rattle.engine.proofs.Settling.{Settling, settling-none, settling-more, starts-sound, settled}
 use borrow.Author.Needs.{needs}
 use Rattle.engine.proofs.settle.Statement.{statement}
 use Rattle.engine.proofs.settle.Tie as tie
 
 abbrev Inv-loop : tie.InvT-loop
-Inv-loop s head live₀ held₀ live held = (length live ≡ 1024) × Settling (decode s) (setOf live₀) (setOf held₀) (setOf live) (setOf held)
+Inv-loop s head live₀ held₀ live held = (length live ≡ 1024) × (length held ≡ 256) × Settling (decode s) (setOf live₀) (setOf held₀) (setOf live) (setOf held)
 
 abbrev μ-loop : tie.MeasureT-loop
-μ-loop s head live₀ held₀ live held = 1024 - length (setOf live)
+μ-loop s head live₀ held₀ live held = 1280 - (length (setOf live) + length (setOf held))
 
 closed-requires : tie.Need-closed-requires Inv-loop μ-loop
-closed-requires c κs = c .before .pre
+closed-requires c κs = let b = c .before in (b .pre .0, b .pre .1 .0)
 
 loop-holds : tie.Need-loop-holds Inv-loop μ-loop
 loop-holds c =
     let b = c .before .before in
+    let sc = decode (b .args .s .now) in (
+      b .pre .1 .1,
+      search needs,
+      settling-none sc (setOf (b .args .live .now)) (setOf (c .closed .result)) (subst⁻¹ (λ l. Shut sc (setOf l)) (c .closed .ensures) (closed-shut sc (b .pre .1 .0 .lawful) (setOf (b .args .inputs)))),
+    )
+
+pass-requires : tie.Need-pass-requires Inv-loop μ-loop
+pass-requires c κs =
+    let b = c .before .before .before .before .before in
+    let l = c .before .before .loop in
+    (b .pre .0, (b .pre .1 .0, (l .inv .0, l .inv .1)))
+
+closed-requires-2 : tie.Need-closed-requires-2 Inv-loop μ-loop
+closed-requires-2 c κs = let b = c .before .before .before .before .before .before .before in (b .pre .0, b .pre .1 .0)
+
+-- closing the store takes no token away
+no-fewer : (c : tie.After-closed2 Inv-loop μ-loop) → length (setOf (c .before .before .pass .last .1 .1 .1 .0)) ≤ length (setOf (c .closed2 .result))
+no-fewer c =
+    let b = c .before .before .before .before .before .before .before .before in
     let sc = decode (b .args .s .now) in
-    (search needs, settling-none sc (setOf (b .args .agents)) (setOf (c .closed .result)) (subst⁻¹ (λ l. Shut sc (setOf l)) (c .closed .ensures) (closed-shut sc (b .pre .1 .lawful) (setOf (b .args .inputs)))))
-
-tell-requires : tie.Need-tell-requires Inv-loop μ-loop
-tell-requires c κs = c .before .before .before .before .pre
-
-spread-requires : tie.Need-spread-requires Inv-loop μ-loop
-spread-requires c κs = c .before .before .before .before .before .before .pre
-
-returns : tie.Need-returns Inv-loop μ-loop
-returns c =
-    let b = c .before .before .before .before .before .before .before .before .before .before in
-    let l = c .before .before .before .before .before .before .before .loop in
-    let sc = decode (b .args .s .now) in
-    let first = c .before .before .before .before .before .before .before .before .closed in
-    let inputs = b .args .inputs in
-    let long : length inputs ≡ 256 = search needs in
-    settled sc (setOf (b .args .agents)) (setOf (first .result)) (setOf (l .live)) (setOf (l .held)) (setOf (c .before .before .before .spread .result .live)) (setOf (c .before .before .before .before .before .tell .result)) (c .before .before .before .spread .result .grew)
-    (l .inv .1) (c .before .before .before .before .before .tell .ensures) (c .before .before .before .spread .ensures) (not-true _ (c .if1 .taken)) (setOf inputs)
-    (subst⁻¹ (λ h. Sound sc (setOf (b .args .agents)) (setOf inputs) (Marked (setOf (b .args .agents))) (Marked (setOf h))) (first .ensures) (starts-sound sc (b .pre .1 .lawful) (setOf (b .args .agents)) (setOf inputs)))
-    (λ t m. subst⁻¹ (λ h. Marked (setOf h) t) (first .ensures) (closed-above sc (b .pre .1 .lawful) (setOf inputs) t (omega (arith, member-within inputs m)) m))
+    let h = c .before .before .pass .ensures in
+    let held = c .before .before .pass .last .1 .1 .1 .0 in
+    subst⁻¹ (λ l. length (setOf held) ≤ length (setOf l)) (c .closed2 .ensures)
+    (set-more held (flagsOf 256 (closure sc (setOf held))) (flagsOf-length 256 (closure sc (setOf held)) ∙ sym (h .long-held))
+    (λ t m. closed-above sc (b .pre .1 .0 .lawful) (setOf held) t (omega (arith, member-within held m, h .long-held)) m))
 
 loop-less : tie.Need-loop-less Inv-loop μ-loop
 loop-less c =
-    let l = c .before .before .before .before .before .before .before .loop in
-    let after = c .before .before .before .spread .result .live in
-    let long : length after ≡ 1024 = search needs in
-    omega (arith, c .before .before .before .spread .ensures .more (not-false _ (c .if1 .left)), set-length-le after)
+    let h = c .before .before .pass .ensures in
+    let live = c .before .before .pass .last .1 .1 .0 in
+    let held = c .closed2 .result in
+    let long : length held ≡ 256 = search needs in
+    omega (arith, h .larger, ap {B = ℕ} (λ x. cond x 1 0) (c .before .if1 .taken), no-fewer c, set-length-le live, h .long-live, set-length-le held)
 
 loop-again : tie.Need-loop-again Inv-loop μ-loop
 loop-again c =
-    let b = c .before .before .before .before .before .before .before .before .before .before in
-    let l = c .before .before .before .before .before .before .before .loop in
-    (search needs, settling-more (decode (b .args .s .now)) (setOf (b .args .agents)) (setOf (c .before .before .before .before .before .before .before .before .closed .result)) (setOf (l .live)) (setOf (l .held)) (setOf (c .before .before .before .spread .result .live)) (setOf (c .before .before .before .before .before .tell .result)) (c .before .before .before .spread .result .grew) (l .inv .1) (c .before .before .before .before .before .tell .ensures) (c .before .before .before .spread .ensures))
+    let b = c .before .before .before .before .before .before .before .before in
+    let l = c .before .before .before .before .before .loop in
+    let p = c .before .before .pass in (
+      p .ensures .long-live,
+      search needs,
+      settling-more (decode (b .args .s .now)) (setOf (b .args .live .now)) (setOf (c .before .before .before .before .before .before .closed .result)) (l .live) (l .held) (p .last .1 .1 .0) (p .last .1 .1 .1 .0) (p .result)
+          (l .inv .2) (p .ensures) (b .pre .1 .0 .lawful) (c .closed2 .result) (c .closed2 .ensures),
+    )
+
+returns : tie.Need-returns Inv-loop μ-loop
+returns c =
+    let b = c .before .before .before .before .before .before .before in
+    let first = c .before .before .before .before .before .closed in
+    let l = c .before .before .before .before .loop in
+    let p = c .before .pass in
+    let sc = decode (b .args .s .now) in
+    let lives = setOf (b .args .live .now) in
+    let inputs = b .args .inputs in
+    let long : length inputs ≡ 256 = search needs in
+    settled sc lives (setOf (first .result)) (l .live) (l .held) (p .last .1 .1 .0) (p .last .1 .1 .1 .0) (p .result) (l .inv .2) (p .ensures) (c .if1 .left) (setOf inputs)
+    (subst⁻¹ (λ h. Sound sc lives (setOf inputs) (Marked lives) (Marked (setOf h))) (first .ensures) (starts-sound sc (b .pre .1 .0 .lawful) lives (setOf inputs)))
+    (λ t m. subst⁻¹ (λ h. Marked (setOf h) t) (first .ensures) (closed-above sc (b .pre .1 .0 .lawful) (setOf inputs) t (omega (arith, member-within inputs m)) m))
 
 pub settle-spec : {M : Type 1} → statement M
 settle-spec =
@@ -70,8 +95,8 @@ settle-spec =
     μ-loop
     closed-requires
     loop-holds
-    tell-requires
-    spread-requires
-    returns
+    pass-requires
+    closed-requires-2
     loop-less
-    loop-again)
+    loop-again
+    returns)

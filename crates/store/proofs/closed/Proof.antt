@@ -1,14 +1,12 @@
 -- `store::closed`: what a pass adds derives from the tokens; after a pass that adds nothing the store is closed under the
 -- rules. Each pass that adds something brings the store a token nearer to all 256.
-use mathlib.Core.Path.{_≡_, refl, sym, ap, subst, _∙_}
-use mathlib.Core.Bool.{false, cond}
+use mathlib.Core.Path.{sym, ap, subst, _∙_}
 use mathlib.Core.List.{List·Memᴰ}
-use Prim.Native.Nat.{ℕ, _+_, _-_}
+use Prim.Native.Nat.{_-_}
 use borrow.Author.Needs.{needs}
 use native.Mathlib.Omega.{arith}
 use lib.ListN.{length}
 use Rattle.tcc.specs.Store.{told}
-use Rattle.tcc.proofs.Sets.{true-is-false}
 use Rattle.tcc.proofs.Closure.{Follows}
 use Rattle.format.specs.Decode.{decode}
 use Rattle.format.proofs.Decode.{decode-tokens, sizes-few}
@@ -20,10 +18,10 @@ use Rattle.store.proofs.closed.Statement.{statement}
 use Rattle.store.proofs.closed.Tie as tie
 
 abbrev Inv-loop : tie.InvT-loop
-Inv-loop s head from store₀ grew₀ store grew = Drawn (decode s) (setOf store₀) store × (grew ≡ false → Follows (λ t. List·Memᴰ t (setOf store)) (decode s .rules))
+Inv-loop s head from store₀ store = Drawn (decode s) (setOf store₀) store
 
 abbrev μ-loop : tie.MeasureT-loop
-μ-loop s head from store₀ grew₀ store grew = 256 - length (setOf store) + cond grew 1 0
+μ-loop s head from store₀ store = 256 - length (setOf store)
 
 add-from : tie.Need-add-from Inv-loop μ-loop
 add-from c = omega (arith, sizes-few (c .before .before .args .s .now), ap (λ h. h .agents) (c .before .before .pre .0))
@@ -34,49 +32,58 @@ add-from-2 c =
     omega (arith, sizes-few (b .args .s .now), ap (λ h. h .agents) (b .pre .0), ap (λ h. h .procedures) (b .pre .0))
 
 loop-holds : tie.Need-loop-holds Inv-loop μ-loop
-loop-holds c = (record { long = search needs; kept = λ t m. m; derived = λ t m. told m }, λ e. absurd (true-is-false refl e))
+loop-holds c = record { long = search needs; kept = λ t m. m; derived = λ t m. told m }
 
 rule-pass-requires : tie.Need-rule-pass-requires Inv-loop μ-loop
 rule-pass-requires c κs =
-    let b = c .before .before .before .before .before .before in
-    (omega (arith, ap (λ h. h .agents) (b .pre .0), ap (λ h. h .procedures) (b .pre .0)), c .before .before .loop .inv .0 .long)
+    let b = c .before .before .before .before .before in
+    (omega (arith, ap (λ h. h .agents) (b .pre .0), ap (λ h. h .procedures) (b .pre .0)), c .before .loop .inv .long)
+
+-- what a pass leaves still derives from the tokens
+drawn : (c : tie.After-rule-pass Inv-loop μ-loop) → Drawn (decode (c .before .before .before .before .before .before .args .s .now)) (setOf (c .before .before .before .before .before .before .args .tokens)) (c .rule-pass .last .1 .1 .0)
+drawn c =
+    let tokens = c .before .before .before .before .before .before .args .tokens in
+    let old = c .before .before .loop .inv in
+    let h = c .rule-pass .ensures in
+    record { long = h .long; kept = λ t m. h .kept t (old .kept t m); derived = h .derived (setOf tokens) (old .derived) }
 
 loop-less : tie.Need-loop-less Inv-loop μ-loop
 loop-less c =
-    let h = c .rule-pass .ensures in
-    omega (arith, h .larger, h .long, set-length-le (c .rule-pass .last .1 .1 .0), ap {B = ℕ} (λ b. cond b 1 0) (c .before .before .loop-test .taken))
+    let h = c .before .rule-pass .ensures in
+    omega (arith, h .larger, h .long, set-length-le (c .before .rule-pass .last .1 .1 .0))
 
 loop-again : tie.Need-loop-again Inv-loop μ-loop
-loop-again c =
-    let tokens = c .before .before .before .before .before .before .before .args .tokens in
-    let old = c .before .before .before .loop .inv .0 in
-    let h = c .rule-pass .ensures in
-    (record { long = h .long; kept = λ t m. h .kept t (old .kept t m); derived = h .derived (setOf tokens) (old .derived) }, h .settled)
+loop-again c = drawn (c .before)
 
-array-read-if1 : tie.Need-array-read-if1 Inv-loop μ-loop
-array-read-if1 c = search needs
+array-read-if2 : tie.Need-array-read-if2 Inv-loop μ-loop
+array-read-if2 c = search needs
 
 flood-requires : tie.Need-flood-requires Inv-loop μ-loop
 flood-requires c κs =
-    let b = c .before .before .before .before .before .before .before in
-    (omega (arith, sizes-few (b .args .s .now), ap (λ h. h .tokens) (b .pre .0)), c .before .before .before .loop .inv .0 .long)
+    let b = c .before .before .before .before .before .before .before .before .before in
+    (omega (arith, sizes-few (b .args .s .now), ap (λ h. h .tokens) (b .pre .0)), c .before .before .before .rule-pass .ensures .long)
+
+-- after a pass that adds nothing the rules are followed
+follows : (c : tie.Else1 Inv-loop μ-loop) → Follows (λ t. List·Memᴰ t (setOf (c .before .rule-pass .last .1 .1 .0))) (decode (c .before .before .before .before .before .before .before .args .s .now) .rules)
+follows c = c .before .rule-pass .ensures .settled (omega arith)
 
 returns : tie.Need-returns Inv-loop μ-loop
 returns c =
-    let b = c .before .before .before .before .before .before .before .before in
+    let pass = c .before .before .before .before in
+    let b = pass .before .before .before .before .before .before in
     let s = b .args .s .now in
-    let l = c .before .before .before .before .loop in
-    closed-clash (decode s) (setOf (b .args .tokens)) (l .store) (l .inv .0) (l .inv .1 (c .before .before .before .loop-test .left))
+    let store = pass .rule-pass .last .1 .1 .0 in
+    closed-clash (decode s) (setOf (b .args .tokens)) store (drawn pass) (follows (c .before .before .before))
     (c .flood .last .1 .0)
     (b .pre .1 .lawful)
-    (c .before .before .if1 .taken)
-    (subst (λ n. Flooded n (l .store) (c .flood .last .1 .0)) (ap (λ h. h .tokens) (b .pre .0) ∙ sym (decode-tokens s)) (c .flood .ensures))
+    (c .before .before .if2 .taken)
+    (subst (λ n. Flooded n store (c .flood .last .1 .0)) (ap (λ h. h .tokens) (b .pre .0) ∙ sym (decode-tokens s)) (c .flood .ensures))
 
 returns-2 : tie.Need-returns-2 Inv-loop μ-loop
 returns-2 c =
-    let b = c .before .before .before .before .before .before in
-    let l = c .before .before .loop in
-    closed-calm (decode (b .args .s .now)) (setOf (b .args .tokens)) (l .store) (l .inv .0) (l .inv .1 (c .before .loop-test .left)) (c .if1 .left)
+    let pass = c .before .before in
+    let b = pass .before .before .before .before .before .before in
+    closed-calm (decode (b .args .s .now)) (setOf (b .args .tokens)) (pass .rule-pass .last .1 .1 .0) (drawn pass) (follows (c .before)) (c .if2 .left)
 
 pub closed-spec : {M : Type 1} → statement M
 closed-spec =
@@ -90,7 +97,7 @@ closed-spec =
     rule-pass-requires
     loop-less
     loop-again
-    array-read-if1
+    array-read-if2
     flood-requires
     returns
     returns-2)

@@ -9,15 +9,16 @@ use lib.ListN.{length, set}
 use Rattle.words.specs.Word.{field, words}
 use Rattle.words.proofs.Field.{field-below}
 use Rattle.store.specs.Passes.{adds}
+use Rattle.store.proofs.Flags.{set-length-le}
 use Rattle.store.proofs.Passes.{rulesFrom, Passing, passing-none, passing-skipped, passing-added, passing-all}
 use Rattle.store.proofs.rule_pass.Statement.{statement}
 use Rattle.store.proofs.rule_pass.Tie as tie
 
 abbrev Inv-loop : tie.InvT-loop
-Inv-loop s from store₀ count grew₀ k₀ store grew k = (count ≡ length (words s)) × (rulesFrom s ≤ k) × Passing s k store₀ store grew
+Inv-loop s from store₀ count added₀ k₀ store added k = (count ≡ length (words s)) × (rulesFrom s ≤ k) × Passing s k store₀ store added
 
 abbrev μ-loop : tie.MeasureT-loop
-μ-loop s from store₀ count grew₀ k₀ store grew k = count - k
+μ-loop s from store₀ count added₀ k₀ store added k = count - k
 
 word-count-requires : tie.Need-word-count-requires Inv-loop μ-loop
 word-count-requires c κs = search needs
@@ -39,6 +40,11 @@ number-requires c κs = search needs
 element-write-store : tie.Need-element-write-store Inv-loop μ-loop
 element-write-store c = omega (arith, field-below (c .before .before .before .before .word-at .result) 0 8, c .number .ensures)
 
+add-added : tie.Need-add-added Inv-loop μ-loop
+add-added c =
+    let l = c .before .before .before .before .before .before .loop in
+    omega (arith, l .inv .2 .larger, l .inv .2 .long, set-length-le (l .store))
+
 add-k : tie.Need-add-k Inv-loop μ-loop
 add-k c = search needs
 
@@ -56,21 +62,21 @@ loop-again c =
     (λ w. rw (w .2, w .3) (
       l .inv .0,
       omega arith,
-      subst⁻¹ (λ t. Passing s (l .k + 1) (b .args .store .now) (set (l .store) t true) true)
+      subst⁻¹ (λ t. Passing s (l .k + 1) (b .args .store .now) (set (l .store) t true) (l .added + 1))
           (w .1 .ensures ∙ ap (λ x. field x 0 8) word)
-          (passing-added s (l .k) (b .args .store .now) (l .store) (l .grew) (l .inv .2) (l .inv .1) (omega arith) (sym answer ∙ w .0 .taken)),
+          (passing-added s (l .k) (b .args .store .now) (l .store) (l .added) (l .inv .2) (l .inv .1) (omega arith) (sym answer ∙ w .0 .taken)),
     ))
     (λ w. rw (w .1, w .2) (
       l .inv .0,
       omega arith,
-      passing-skipped s (l .k) (b .args .store .now) (l .store) (l .grew) (l .inv .2) (sym answer ∙ w .0 .left),
+      passing-skipped s (l .k) (b .args .store .now) (l .store) (l .added) (l .inv .2) (sym answer ∙ w .0 .left),
     ))
     (c .if1 .came)
 
 returns : tie.Need-returns Inv-loop μ-loop
 returns c =
     let b = c .before .before .before .before in
-    passing-all (b .args .s .now) (c .before .loop .k) (b .args .store .now) (c .before .loop .store) (c .before .loop .grew) (c .before .loop .inv .2) (omega arith)
+    passing-all (b .args .s .now) (c .before .loop .k) (b .args .store .now) (c .before .loop .store) (c .before .loop .added) (c .before .loop .inv .2) (omega arith)
 
 pub rule-pass-spec : {M : Type 1} → statement M
 rule-pass-spec =
@@ -84,6 +90,7 @@ rule-pass-spec =
     adds-token-requires
     number-requires
     element-write-store
+    add-added
     add-k
     loop-less
     loop-again
