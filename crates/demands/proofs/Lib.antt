@@ -6,7 +6,7 @@ pub mod Linked
 pub mod RunExit
 pub mod Played
 pub mod Runs
-pub mod Turns
+pub mod Calls
 pub mod Ends
 pub mod Chained
 pub mod Determinacy

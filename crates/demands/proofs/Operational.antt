@@ -22,7 +22,7 @@ use Rattle.demands.specs.Operational.{Leaves, ByTheRules, Operational}
 use Rattle.demands.proofs.Accepted.{lawful, state-lawful}
 use Rattle.demands.proofs.Instants.{IsInstant}
 use Rattle.demands.proofs.Linked.{Linked, none, then}
-use Rattle.demands.proofs.Turns.{linked}
+use Rattle.demands.proofs.Calls.{linked}
 use Rattle.demands.proofs.Ends.{leaves, from-aborted}
 
 module _ {score : List ℕ} {p : Answered} (h : IsInstant score p) (runs : Running (p .before)) where
