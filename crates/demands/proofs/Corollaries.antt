@@ -1,6 +1,6 @@
 -- What a customer asks for.
-use Rattle.demands.specs.Corollaries.{TwoConsoles, Splitting}
 use mathlib.Core.Path.{refl}
+use Rattle.demands.specs.Corollaries.{TwoConsoles, Splitting}
 use Rattle.demands.proofs.Linked.{linked-unique}
 use Rattle.demands.proofs.Calls.{linked}
 

@@ -9,6 +9,7 @@ pub mod Runs
 pub mod Calls
 pub mod Ends
 pub mod Chained
+pub mod Rules
 pub mod Determinacy
 pub mod Operational
 pub mod Corollaries

@@ -18,7 +18,6 @@ use Rattle.tcc.proofs.Sets.{on-cons}
 use Rattle.format.specs.Decode.{decode}
 use Rattle.lent.specs.Bits.{bytesOf}
 use Rattle.lent.specs.States.{asBytes}
-use Rattle.instant.specs.InstantCall.{Lent, lent, exit}
 use Rattle.journal.specs.Instants.{inputLists}
 use Rattle.journal.specs.History.{entry}
 use Rattle.history.specs.declared.Stop.{Stop}
@@ -32,7 +31,6 @@ use Rattle.score.proofs.ScoreRun.{read}
 use Rattle.demands.specs.Calls.{Answered, written, Plays, none, then}
 use Rattle.demands.specs.Determinacy.{shownBy, Shows}
 use Rattle.demands.proofs.Accepted.{given}
-use Rattle.demands.proofs.InstantExit.{Fit}
 use Rattle.demands.proofs.Instants.{instant-shown}
 use Rattle.demands.proofs.RunExit.{Rises, ranOn, Outcome, refuses, runs, outcome}
 use Rattle.demands.proofs.RunExit as run-exit
