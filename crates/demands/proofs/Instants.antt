@@ -11,19 +11,18 @@
 --     after-round          it stands for the state that the definition gives
 --     instant-shown        a journal shows its status, inputs and output
 use mathlib.Core.Path.{_≡_, refl, sym, ap, subst⁻¹, _∙_}
-use mathlib.Core.Bool.{Bool, true, false, cond}
+use mathlib.Core.Bool.{false}
 use mathlib.Core.List.{List}
 use Prim.Native.Nat.{ℕ}
 use native.Mathlib.Omega.{arith}
-use lib.Dec.{eqb}
-use Rattle.tcc.specs.Instant.{output, running, aborted, after}
+use Rattle.tcc.specs.Instant.{output, after}
 use Rattle.format.specs.Decode.{sizes, decode}
 use Rattle.scorefile.specs.Check as check
 use Rattle.lent.specs.Maps.{tokensIn, mapOf}
-use Rattle.lent.specs.States.{stateFault, stateOf, asBytes, LawfulState, SameState}
+use Rattle.lent.specs.States.{stateFault, stateOf, asBytes, SameState}
 use Rattle.lent.proofs.Round.{state-round}
 use Rattle.instant.specs.InstantCall.{Lent, Exit, exit}
-use Rattle.instant.proofs.Written.{Inside}
+use Rattle.instant.proofs.Written.{Inside, after-lawful}
 use Rattle.journal.specs.History.{instantWords, entry}
 use Rattle.journal.proofs.Rising.{output-rising, rising-map}
 use Rattle.score.specs.Answer.{numberOf, statusOf, numberIn, statusIn}
@@ -94,14 +93,9 @@ module _ {score : List ℕ} {p : Answered} (h : IsInstant score p) where
   after-faultless = ap (λ q. stateFault (sizes score .agents) (q .after)) (h .is) ∙ next-faultless score (h .accepted) (p .before) (h .faultless) (p .inputs) (h .known)
 
   pub after-round : SameState (stateOf (p .after)) (after (given score (p .before) (p .inputs)))
-  unfolding LawfulState
   after-round =
       let a = given score (p .before) (p .inputs) in
-      subst⁻¹ (λ (q : Answered). SameState (stateOf (q .after)) (after a)) (h .is) (state-round (after a) (go (eqb (a .status) 2)))
-    where
-      go : (b : Bool) → LawfulState 1024 (cond b aborted (running (given score (p .before) (p .inputs) .awake)))
-      go true = tt
-      go false = λ j m. omega (arith, instant-inside .agents j m, lawful score (h .accepted) .most-agents)
+      subst⁻¹ (λ (q : Answered). SameState (stateOf (q .after)) (after a)) (h .is) (state-round (after a) (after-lawful (decode score) a 1024 (lawful score (h .accepted) .most-agents) instant-inside))
 
   pub instant-shown : instantWords (p .status) (p .inputs) (tokensIn (p .output)) ≡ entry (decode score) (p .inputs) (given score (p .before) (p .inputs))
   instant-shown =

@@ -16,3 +16,6 @@ pub mod Corollaries
 pub mod NotEmpty
 pub mod NoEleven
 pub mod Consequences
+pub mod JournalChecks
+pub mod JournalRuns
+pub mod JournalExact

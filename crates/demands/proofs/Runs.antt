@@ -84,7 +84,7 @@ not-eleven n Next h e = h refl
 not-eleven n Room h e = omega arith
 
 -- a run that was refused, or one that ran
-data Ended (score inputs : List ℕ) (l m : run.Lent) (a : ℕ) : Type 0 where
+pub data Ended (score inputs : List ℕ) (l m : run.Lent) (a : ℕ) : Type 0 where
   refused : written a ≡ 0 → m ≡ l → Ended score inputs l m a
   ran : run-exit.Fit score inputs l → written a ≡ ranOn score inputs l .instants → m ≡ ended (l .journal) (ranOn score inputs l) .lent → Ended score inputs l m a
 
@@ -102,7 +102,7 @@ module _ {score inputs : List ℕ} {l m : run.Lent} {a : ℕ} (c : ScoreRun scor
       go e q (refuses r not-zero not-next not-full) = not-next (sym (number-is e q) ∙ n)
       go e q (runs f h) = not-eleven (ranOn score inputs l .instants) (ranOn score inputs l .stop) h (sym (number-is e q) ∙ n)
 
-  run-ended : Ended score inputs l m a
+  pub run-ended : Ended score inputs l m a
   run-ended = go (run.exit score inputs l) refl (outcome score inputs l)
     where
       go : (e : run.Exit) → run.exit score inputs l ≡ e → Outcome score inputs l e → Ended score inputs l m a

@@ -2,9 +2,9 @@
 --     Proper           a reply that turns down the score by its verdict, or names a word or a number of instants up to n
 --     run-proper       a run's, where n is the whole words of the list
 --     check-proper     a journal check's, where n is the whole words of the journal
-use mathlib.Core.Path.{_≡_, refl, sym, subst⁻¹}
+use mathlib.Core.Path.{_≡_, refl}
 use mathlib.Core.Bool.{Bool, true, false, cond, not}
-use mathlib.Core.List.{List, [], _∷_, map}
+use mathlib.Core.List.{List, [], _∷_}
 use Prim.Native.Nat.{ℕ, suc, _+_, _*_, _-_, _/_, _≤_}
 use native.Mathlib.Omega.{arith}
 use lib.Dec.{eqb}
@@ -15,7 +15,7 @@ use Rattle.scorefile.specs.Check.{numberOf, verdict}
 use Rattle.words.specs.Word.{words}
 use Rattle.words.proofs.Words.{words-length}
 use Rattle.lent.specs.States.{stateFault, asBytes}
-use Rattle.instant.specs.InstantCall.{scratchBytes, noScratch}
+use Rattle.instant.specs.InstantCall.{scratchBytes}
 use Rattle.journal.specs.declared.Form.{Form}
 use Rattle.journal.specs.declared.Form.the-variants.{Good, Bytes as NotWhole, Word as Wrong}
 use Rattle.journal.specs.Form.{formOf}

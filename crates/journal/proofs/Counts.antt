@@ -8,9 +8,8 @@ use Prim.Native.Nat.{ℕ, suc, _+_, _%_, _<_, _≤_}
 use native.Mathlib.Omega.{arith}
 use lib.Dec.{eqb}
 use lib.ListN.{length}
-use Rattle.words.specs.Word.{words, kind}
-use Rattle.journal.specs.declared.Form.{Form}
-use Rattle.journal.specs.declared.Form.the-variants.{Good, Bytes, Word}
+use Rattle.words.specs.Word.{words}
+use Rattle.journal.specs.declared.Form.the-variants.{Bytes, Word}
 use Rattle.journal.specs.Form.{isInstant, mayFollow, firstAgainst, formOf}
 use Rattle.journal.specs.Instants.{upTo, instantsIn}
 
