@@ -4,7 +4,7 @@ use Rattle.demands.specs.Calls.{run}
 use Rattle.demands.specs.Determinacy.{Determinacy}
 use Rattle.demands.proofs.Linked.{Linked}
 use Rattle.demands.proofs.Runs.{run-shown}
-use Rattle.demands.proofs.Turns.{linked, calls-meet}
+use Rattle.demands.proofs.Calls.{linked, calls-meet}
 use Rattle.demands.proofs.Chained.{at-instant}
 
 pub determinacy : Determinacy

@@ -6,9 +6,10 @@ pub mod Linked
 pub mod RunExit
 pub mod Played
 pub mod Runs
-pub mod Turns
+pub mod Calls
 pub mod Ends
 pub mod Chained
+pub mod Rules
 pub mod Determinacy
 pub mod Operational
 pub mod Corollaries

@@ -3,6 +3,7 @@
 --     linked-append      two rows, one after the other
 --     linked-split       an instant of a row, with the row before it
 --     linked-first       a row that has an instant starts at a state without fault
+--     linked-each        each instant of a row is one of the definition's
 --     linked-state       the last state is the definition's, copies aside
 --     instant-unique     an instant is settled by the state before it and by its inputs
 --     linked-unique      so is a row by its first state and its inputs, and its last state too
@@ -12,6 +13,7 @@ use mathlib.Core.List.{List, [], _∷_, _++_, map}
 use Prim.Native.Nat.{ℕ}
 use native.Mathlib.Omega.{arith}
 use Rattle.tcc.specs.Instant.{after, stateAfter}
+use Rattle.tcc.proofs.Sets.{Within, on-cons}
 use Rattle.format.specs.Decode.{sizes, decode}
 use Rattle.lent.specs.States.{stateFault, stateOf, SameState}
 use Rattle.lent.proofs.SameState.{state-refl, state-trans, along-same}
@@ -36,6 +38,10 @@ module _ {score : List ℕ} where
   pub linked-first : (earlier later : List Answered) (p : Answered) {s last : List ℕ} → Linked score s (earlier ++ p ∷ later) last → stateFault (sizes score .agents) s ≡ false
   linked-first [] later p (then at is x) = subst (λ s. stateFault (sizes score .agents) s ≡ false) at (is .faultless)
   linked-first (q ∷ earlier) later p (then at is x) = subst (λ s. stateFault (sizes score .agents) s ≡ false) at (is .faultless)
+
+  pub linked-each : {s last : List ℕ} {l : List Answered} → Linked score s l last → Within (IsInstant score) l
+  linked-each none p m = elim m [ ]
+  linked-each (then at is x) p m = on-cons is (linked-each x) p m
 
   pub linked-state : {s last : List ℕ} {l : List Answered} → Linked score s l last → SameState (stateOf last) (stateAfter (decode score) (stateOf s) (map (λ q. q .inputs) l))
   unfolding stateAfter

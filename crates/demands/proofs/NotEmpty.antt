@@ -1,6 +1,6 @@
 -- The claim of demand 3 is not empty.
 use Rattle.demands.specs.Determinacy.{NotEmpty}
-use Rattle.demands.proofs.Turns.{linked, calls-answer}
+use Rattle.demands.proofs.Calls.{linked, calls-answer}
 use Rattle.demands.proofs.Chained.{order-finishes}
 
 pub not-empty : NotEmpty

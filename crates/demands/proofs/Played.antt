@@ -20,10 +20,8 @@ use Rattle.instant.specs.InstantCall.{Lent, lent, scratchBytes, noScratch, leng
 use Rattle.instant.proofs.Exits.{Lengths-are}
 use Rattle.journal.specs.History.{Rising}
 use Rattle.journal.proofs.Rising.{rising-below, rising-map}
-use Rattle.score.specs.Answer.{numberOf, numberIn, packed}
-use Rattle.score.specs.ScoreInstant.{ScoreInstant}
-use Rattle.score.specs.ScoreInstant as one
-use Rattle.score.specs.ScoreRun.{ofReply}
+use Rattle.score.specs.Answer.{numberIn, packed}
+use Rattle.score.specs.ScoreInstant.{ofReply, ScoreInstant}
 use Rattle.demands.specs.Calls.{Answered, answeredBy, written, Plays, none, then}
 use Rattle.demands.proofs.Accepted.{given, Known, known-input}
 use Rattle.demands.proofs.Instants.{IsInstant, accepted-instant, settled-instant, after-faultless}
@@ -63,7 +61,7 @@ module _ (score : List ℕ) where
         behind = exit score (mapOf inputs) before .lent
 
         answer : ℕ
-        answer = packed (one.ofReply (exit score (mapOf inputs) before .reply))
+        answer = packed (ofReply (exit score (mapOf inputs) before .reply))
 
         called : ScoreInstant score (mapOf inputs) before behind answer
         called = record { written = refl; answered = refl }

@@ -1,6 +1,6 @@
 -- Runs, held against instant calls, over and over.
 --     run-shows            the words and the state of a run are those of the instant calls
---     none-written, all-written     the instants that a run wrote, as its answer says
+--     all-written, none-written     the instants that a run wrote, as its answer says
 --     Ended                a run was refused and left all as it was, or it ran
 --     run-ended            there is nothing else
 --     run-eleven           no run answers 11
@@ -18,7 +18,6 @@ use Rattle.tcc.proofs.Sets.{on-cons}
 use Rattle.format.specs.Decode.{decode}
 use Rattle.lent.specs.Bits.{bytesOf}
 use Rattle.lent.specs.States.{asBytes}
-use Rattle.instant.specs.InstantCall.{Lent, lent, exit}
 use Rattle.journal.specs.Instants.{inputLists}
 use Rattle.journal.specs.History.{entry}
 use Rattle.history.specs.declared.Stop.{Stop}
@@ -32,7 +31,6 @@ use Rattle.score.proofs.ScoreRun.{read}
 use Rattle.demands.specs.Calls.{Answered, written, Plays, none, then}
 use Rattle.demands.specs.Determinacy.{shownBy, Shows}
 use Rattle.demands.proofs.Accepted.{given}
-use Rattle.demands.proofs.InstantExit.{Fit}
 use Rattle.demands.proofs.Instants.{instant-shown}
 use Rattle.demands.proofs.RunExit.{Rises, ranOn, Outcome, refuses, runs, outcome}
 use Rattle.demands.proofs.RunExit as run-exit
@@ -72,13 +70,13 @@ take-member zero l x m = elim m [ ]
 take-member (suc n) [] x m = elim m [ ]
 take-member (suc n) (y ∷ l) x m = on-cons {P = λ z. List·Memᴰ z (y ∷ l)} (List·Memᴰ·head refl) (λ z k. List·Memᴰ·tail (take-member n l z k)) x m
 
-none-written : (a : ℕ) → (numberIn a ≡ 0 → ⊥) → (numberIn a ≡ 15 → ⊥) → written a ≡ 0
-none-written a not-zero not-full = rw (ne-eqb (numberIn a) 0 not-zero, ne-eqb (numberIn a) 15 not-full)
-
 all-written : (a n : ℕ) (stop : Stop) → (stop ≡ Next → ⊥) → numberIn a ≡ numberOf (ofReply (ending stop n)) → valueIn a ≡ valueOf (ofReply (ending stop n)) → written a ≡ n
 all-written a n Not h e v = rw e v
 all-written a n Next h e v = absurd (h refl)
 all-written a n Room h e v = rw e v
+
+none-written : (a : ℕ) → (numberIn a ≡ 0 → ⊥) → (numberIn a ≡ 15 → ⊥) → written a ≡ 0
+none-written a not-zero not-full = rw (ne-eqb (numberIn a) 0 not-zero, ne-eqb (numberIn a) 15 not-full)
 
 not-eleven : (n : ℕ) (stop : Stop) → (stop ≡ Next → ⊥) → numberOf (ofReply (ending stop n)) ≡ 11 → ⊥
 not-eleven n Not h e = omega arith

@@ -22,7 +22,7 @@ module _ {score : List ℕ} where
   linked calls.InTurn.none calls.Answers.none = row.none
   linked (then c at x) (one n y) = row.then at (accepted-instant c n) (linked x y)
   linked (then {last = last} c at x) (refused {more = more} n y) = subst (λ s. Linked score s more last) (refused-state c n ∙ at) (linked x y)
-  linked (then {last = last} c at x) (those {last = middle} {played = played} {more = more} p y) =
+  linked (then {last = last} c at x) (those {played = played} {more = more} p y) =
       subst (λ s. Linked score s (played ++ more) last) at
       (linked-append (plays-linked score (taken-rises c) p) (subst (λ s. Linked score s more last) (run-shown c p .state) (linked x y)))
 
