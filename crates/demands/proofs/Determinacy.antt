@@ -1,7 +1,8 @@
 -- Demand 3.
 use mathlib.Core.Path.{subst}
-use Rattle.demands.specs.Calls.{run}
+use Rattle.demands.specs.Calls.{instant, run}
 use Rattle.demands.specs.Determinacy.{Determinacy}
+use Rattle.demands.proofs.Instants.{refused-state}
 use Rattle.demands.proofs.Linked.{Linked}
 use Rattle.demands.proofs.Runs.{run-shown}
 use Rattle.demands.proofs.Calls.{linked, calls-meet}
@@ -11,4 +12,5 @@ pub determinacy : Determinacy
 determinacy score w first last calls answered runs is turn answers = record {
   orders = λ earlier later p e copies awake same chain. at-instant earlier later p runs (subst (λ l. Linked score first l last) e (linked turn answers)) same chain w is;
   runs = λ inputs before after answer m played ends plays. run-shown (calls-meet turn (run inputs before after answer) m) plays;
+  refused = λ input before after answer m n. refused-state (calls-meet turn (instant input before after answer) m) n;
 }

@@ -2,7 +2,7 @@
 -- Whatever a console does that meets the contracts, and in whatever order it reduces: at each answered instant up to and
 -- with the first abort, every order of reductions from what the finished orders before it left awake is no longer than its
 -- weight and, finished, ends as the engine did; each run's journal shows those statuses and outputs, and the run leaves the
--- state after them. An order sees the score, a multiset of agents and the input tokens, and nothing that a call wrote.
+-- state after them; a refused call leaves the state as it was. An order sees the score, a multiset of agents and the input tokens, and nothing that a call wrote.
 --     Running          a state that is not aborted
 --     EndsLike         an order's end and the engine's, read from bytes: abort with status 2; else the same store and
 --                      status and, copies aside, the same agents awake next
@@ -31,8 +31,10 @@ use Rattle.lent.specs.Maps.{tokensIn}
 use Rattle.lent.specs.States.{agentsIn, stateOf}
 use Rattle.journal.specs.Instants.{inputLists}
 use Rattle.journal.specs.History.{instantWords}
+use Rattle.instant.specs.InstantCall.{Lent}
 use Rattle.history.specs.RunCall.{Lent as RunLent}
-use Rattle.demands.specs.Calls.{Call, run, InTurn, Answered, written, Plays, Answers}
+use Rattle.score.specs.Answer.{numberIn}
+use Rattle.demands.specs.Calls.{Call, instant, run, InTurn, Answered, written, Plays, Answers}
 
 abbrev pub Running : List ℕ → Type 0
 Running s = stateOf s ≡ running (agentsIn s)
@@ -72,6 +74,8 @@ pub record Determined (score : List ℕ) (w : ℕ → ℕ) (first : List ℕ) (c
   pub runs : (inputs : List ℕ) (before after : RunLent) (answer : ℕ) → List·Memᴰ (run inputs before after answer) calls →
       (played : List Answered) (last : List ℕ) → Plays score (before .state) (take (written answer) (inputLists inputs)) played last →
       Shows before after played last
+  pub refused : (input : List ℕ) (before after : Lent) (answer : ℕ) → List·Memᴰ (instant input before after answer) calls →
+      (numberIn answer ≡ 0 → ⊥) → after .state ≡ before .state
 
 abbrev pub Determinacy : Type 0
 Determinacy =

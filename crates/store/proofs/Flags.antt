@@ -14,6 +14,7 @@
 --     flagsOf-length, flagsOf-flag       a set's flags: n of them, flag i says whether i is in
 --     flagsOf-member, flagsOf-within, member-flagsOf     their members are the set's below n
 --     flags-settled      flags with the set's members below n are the set's flags
+--     flagsOf-same       equal sets have equal flags
 use mathlib.Core.Path.{_≡_, refl, sym, ap, _∙_}
 use mathlib.Core.Bool.{Bool, true, false, cond}
 use mathlib.Core.List.{List, [], _∷_, _++_, map, List·Memᴰ, List·Memᴰ·head, List·Memᴰ·tail}
@@ -24,7 +25,7 @@ use native.Mathlib.Decide.{decLt, ℕ-discrete}
 use native.Mathlib.Omega.{arith}
 use lib.ListN.{length, getD, set, replicate, length-append, length-set, length-map, length-replicate, getD-replicate, List·getD-eq-default, List·getD-append}
 use lib.Seq.{getD-set-same, getD-set-other, getD-at, ext-getD}
-use Rattle.tcc.specs.Sets.{below, keep, has}
+use Rattle.tcc.specs.Sets.{Same, below, keep, has}
 use Rattle.tcc.proofs.Sets.{Within, Among, true-is-false, on-keep, keep-kept, keep-agrees, below-lt, lt-below, has-member, member-has, not-has}
 use Rattle.store.specs.Flags.{setOf, flagsOf}
 
@@ -173,3 +174,6 @@ module _ (n : ℕ) (l : List ℕ) where
       go : (i : ℕ) → (List·Memᴰ i (setOf flags) → List·Memᴰ i l) → (List·Memᴰ i l → List·Memᴰ i (setOf flags)) → (b : Bool) → getD flags i false ≡ b → getD flags i false ≡ has i l
       go i to from true e = e ∙ sym (member-has (to (flag-member flags e)))
       go i to from false e = e ∙ sym (not-has (λ m. true-is-false (member-flag flags (from m)) e))
+
+pub flagsOf-same : (n : ℕ) {l k : List ℕ} → Same l k → flagsOf n l ≡ flagsOf n k
+flagsOf-same n {l} {k} same = flags-settled n k (flagsOf n l) (flagsOf-length n l) (λ i h. (λ m. same i .0 (flagsOf-member n l m), λ m. member-flagsOf n l h (same i .1 m)))
