@@ -31,13 +31,13 @@ use Rattle.history.specs.Run.{answerIn, same, checkFrom}
 use Rattle.history.specs.JournalCheckCall.{byForm, exit}
 use Rattle.history.proofs.Exact.{Stands, written-stands, check-entries, check-exact}
 use Rattle.score.specs.Answer.{numberOf, valueOf}
-use Rattle.score.specs.ScoreRun.{ofReply}
+use Rattle.score.specs.ScoreRun.{ofRunReply}
 use Rattle.score.specs.Slice.{Slice}
 use Rattle.demands.proofs.Accepted.{lawful, agents-counted}
 
 -- a check's number is 0 only where it accepts
-zero-accepted : (score state : List ℕ) (read : ℕ) (instants : List (List ℕ)) → numberOf (ofReply (checkFrom score state read instants)) ≡ 0 →
-    checkFrom score state read instants ≡ Accepted (valueOf (ofReply (checkFrom score state read instants)))
+zero-accepted : (score state : List ℕ) (read : ℕ) (instants : List (List ℕ)) → numberOf (ofRunReply (checkFrom score state read instants)) ≡ 0 →
+    checkFrom score state read instants ≡ Accepted (valueOf (ofRunReply (checkFrom score state read instants)))
 unfolding checkFrom
 zero-accepted score state read [] = λ z. refl
 zero-accepted score state read (ws ∷ more) =
@@ -45,9 +45,9 @@ zero-accepted score state read (ws ∷ more) =
     go (stateFault (sizes score .agents) (asBytes (after a))) (same ws (entry (decode score) (inputsIn ws) a))
     (checkFrom score (asBytes (after a)) (suc read) more) (zero-accepted score (asBytes (after a)) (suc read) more)
   where
-    go : (faulty as-run : Bool) (r : Reply) → (numberOf (ofReply r) ≡ 0 → r ≡ Accepted (valueOf (ofReply r))) →
-        numberOf (ofReply (cond faulty Unlawful (cond as-run r (Differs read)))) ≡ 0 →
-        cond faulty Unlawful (cond as-run r (Differs read)) ≡ Accepted (valueOf (ofReply (cond faulty Unlawful (cond as-run r (Differs read)))))
+    go : (faulty as-run : Bool) (r : Reply) → (numberOf (ofRunReply r) ≡ 0 → r ≡ Accepted (valueOf (ofRunReply r))) →
+        numberOf (ofRunReply (cond faulty Unlawful (cond as-run r (Differs read)))) ≡ 0 →
+        cond faulty Unlawful (cond as-run r (Differs read)) ≡ Accepted (valueOf (ofRunReply (cond faulty Unlawful (cond as-run r (Differs read)))))
     go true s r rest z = absurd (omega arith)
     go false true r rest z = rest z
     go false false r rest z = absurd (omega arith)
@@ -82,10 +82,10 @@ module _ (score : List ℕ) (accepted : check.numberOf (check.verdict score) ≡
         ∙ check-entries score law (agents-counted score accepted) (h .inputs) (h .rising) (asBytes (startState sc)) (startState sc) start-stands 0
         ∙ ap Accepted (omega (arith, h .instants))
 
-    pub accepted-history : Slice journal → (n : ℕ) → numberOf (ofReply (exit score journal scratch .reply)) ≡ 0 → valueOf (ofReply (exit score journal scratch .reply)) ≡ n → IsHistory (decode score) (startState (decode score)) journal n
+    pub accepted-history : Slice journal → (n : ℕ) → numberOf (ofRunReply (exit score journal scratch .reply)) ≡ 0 → valueOf (ofRunReply (exit score journal scratch .reply)) ≡ n → IsHistory (decode score) (startState (decode score)) journal n
     unfolding checked
     accepted-history lent n z v =
-        go (formOf true (sizes score .tokens) journal) refl (ap (λ r. numberOf (ofReply r)) (sym check-reply) ∙ z) (ap (λ r. valueOf (ofReply r)) (sym check-reply) ∙ v)
+        go (formOf true (sizes score .tokens) journal) refl (ap (λ r. numberOf (ofRunReply r)) (sym check-reply) ∙ z) (ap (λ r. valueOf (ofRunReply r)) (sym check-reply) ∙ v)
       where
         is-history : formOf true (sizes score .tokens) journal ≡ Good → checked ≡ Accepted n → IsHistory (decode score) (startState (decode score)) journal n
         is-history g e =
@@ -103,7 +103,7 @@ module _ (score : List ℕ) (accepted : check.numberOf (check.verdict score) ≡
             }
 
         go : (f : Form) → formOf true (sizes score .tokens) journal ≡ f →
-            numberOf (ofReply (byForm f scratch checked .reply)) ≡ 0 → valueOf (ofReply (byForm f scratch checked .reply)) ≡ n → IsHistory (decode score) (startState (decode score)) journal n
+            numberOf (ofRunReply (byForm f scratch checked .reply)) ≡ 0 → valueOf (ofRunReply (byForm f scratch checked .reply)) ≡ n → IsHistory (decode score) (startState (decode score)) journal n
         go Good g z v = is-history g (zero-accepted score (asBytes (startState (decode score))) 0 (instantsIn (words journal)) z ∙ ap Accepted v)
         go Bytes g z v = absurd (omega arith)
         go (Word k) g z v = absurd (omega arith)

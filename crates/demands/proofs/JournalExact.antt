@@ -7,7 +7,7 @@ use lib.ListN.{take}
 use Rattle.lent.specs.Bits.{bytesOf}
 use Rattle.journal.specs.Instants.{inputLists}
 use Rattle.score.specs.Answer.{numberOf, valueOf}
-use Rattle.score.specs.ScoreRun.{ofReply}
+use Rattle.score.specs.ScoreRun.{ofRunReply}
 use Rattle.score.proofs.ScoreJournalCheck.{read}
 use Rattle.demands.specs.Calls.{written}
 use Rattle.demands.specs.JournalExact.{Exactly, startHistory, RunsAccepted, JournalExact}
@@ -21,7 +21,7 @@ exactly score journal before after answer n accepted long c =
       λ e. accepted-history score accepted journal before long (c .lent) n (sym (r .number) ∙ e .0) (sym (r .value) ∙ e .1),
       λ h.
           let e = history-accepted score accepted journal before long n h in
-          (r .number ∙ ap (λ x. numberOf (ofReply x)) e, r .value ∙ ap (λ x. valueOf (ofReply x)) e),
+          (r .number ∙ ap (λ x. numberOf (ofRunReply x)) e, r .value ∙ ap (λ x. valueOf (ofRunReply x)) e),
     )
 
 pub runs-accepted : RunsAccepted

@@ -34,7 +34,7 @@ use Rattle.history.specs.declared.Reply.the-variants.{Score as Turned, Lengths,
 use Rattle.history.specs.Run.{answerIn, stopAt, Ran, unlessStopped, runFrom}
 use Rattle.history.specs.RunCall.{Lent, Exit, lengthFault, kept, ended, byForm, exit}
 use Rattle.score.specs.Answer.{numberOf}
-use Rattle.score.specs.ScoreRun.{ofReply}
+use Rattle.score.specs.ScoreRun.{ofRunReply}
 use Rattle.score.proofs.CheckCall.{reply-number}
 use Rattle.demands.proofs.Tests.{by-test}
 use Rattle.demands.proofs.Accepted.{given, next-faultless}
@@ -52,7 +52,7 @@ abbrev pub ranOn : List ℕ → List ℕ → Lent → Ran
 ranOn score inputs l = runFrom score (l .state) (length (l .journal)) (inputLists inputs)
 
 pub data Outcome (score inputs : List ℕ) (l : Lent) : Exit → Type 0 where
-  refuses : (r : Reply) → (numberOf (ofReply r) ≡ 0 → ⊥) → (numberOf (ofReply r) ≡ 11 → ⊥) → (numberOf (ofReply r) ≡ 15 → ⊥) → Outcome score inputs l (kept l r)
+  refuses : (r : Reply) → (numberOf (ofRunReply r) ≡ 0 → ⊥) → (numberOf (ofRunReply r) ≡ 11 → ⊥) → (numberOf (ofRunReply r) ≡ 15 → ⊥) → Outcome score inputs l (kept l r)
   runs : Fit score inputs l → (ranOn score inputs l .stop ≡ Next → ⊥) → Outcome score inputs l (ended (l .journal) (ranOn score inputs l))
 
 -- no instant is stopped by 11

@@ -26,7 +26,7 @@ use Rattle.history.specs.Run.{answerIn, stopAt, Ran, unlessStopped, runFrom}
 use Rattle.history.specs.RunCall.{ending, ended}
 use Rattle.history.specs.RunCall as run
 use Rattle.score.specs.Answer.{numberOf, valueOf, numberIn, valueIn}
-use Rattle.score.specs.ScoreRun.{ofReply, ScoreRun}
+use Rattle.score.specs.ScoreRun.{ofRunReply, ScoreRun}
 use Rattle.score.proofs.ScoreRun.{read}
 use Rattle.demands.specs.Calls.{Answered, written, Plays, none, then}
 use Rattle.demands.specs.Determinacy.{shownBy, Shows}
@@ -70,7 +70,7 @@ take-member zero l x m = elim m [ ]
 take-member (suc n) [] x m = elim m [ ]
 take-member (suc n) (y ∷ l) x m = on-cons {P = λ z. List·Memᴰ z (y ∷ l)} (List·Memᴰ·head refl) (λ z k. List·Memᴰ·tail (take-member n l z k)) x m
 
-all-written : (a n : ℕ) (stop : Stop) → (stop ≡ Next → ⊥) → numberIn a ≡ numberOf (ofReply (ending stop n)) → valueIn a ≡ valueOf (ofReply (ending stop n)) → written a ≡ n
+all-written : (a n : ℕ) (stop : Stop) → (stop ≡ Next → ⊥) → numberIn a ≡ numberOf (ofRunReply (ending stop n)) → valueIn a ≡ valueOf (ofRunReply (ending stop n)) → written a ≡ n
 all-written a n Not h e v = rw e v
 all-written a n Next h e v = absurd (h refl)
 all-written a n Room h e v = rw e v
@@ -78,7 +78,7 @@ all-written a n Room h e v = rw e v
 none-written : (a : ℕ) → (numberIn a ≡ 0 → ⊥) → (numberIn a ≡ 15 → ⊥) → written a ≡ 0
 none-written a not-zero not-full = rw (ne-eqb (numberIn a) 0 not-zero, ne-eqb (numberIn a) 15 not-full)
 
-not-eleven : (n : ℕ) (stop : Stop) → (stop ≡ Next → ⊥) → numberOf (ofReply (ending stop n)) ≡ 11 → ⊥
+not-eleven : (n : ℕ) (stop : Stop) → (stop ≡ Next → ⊥) → numberOf (ofRunReply (ending stop n)) ≡ 11 → ⊥
 not-eleven n Not h e = omega arith
 not-eleven n Next h e = h refl
 not-eleven n Room h e = omega arith
@@ -89,11 +89,11 @@ pub data Ended (score inputs : List ℕ) (l m : run.Lent) (a : ℕ) : Type 0 whe
   ran : run-exit.Fit score inputs l → written a ≡ ranOn score inputs l .instants → m ≡ ended (l .journal) (ranOn score inputs l) .lent → Ended score inputs l m a
 
 module _ {score inputs : List ℕ} {l m : run.Lent} {a : ℕ} (c : ScoreRun score inputs l m a) where
-  number-is : (e : run.Exit) → run.exit score inputs l ≡ e → numberIn a ≡ numberOf (ofReply (e .reply))
-  number-is e q = read score inputs l m a c .number ∙ ap (λ x. numberOf (ofReply (x .reply))) q
+  number-is : (e : run.Exit) → run.exit score inputs l ≡ e → numberIn a ≡ numberOf (ofRunReply (e .reply))
+  number-is e q = read score inputs l m a c .number ∙ ap (λ x. numberOf (ofRunReply (x .reply))) q
 
-  value-is : (e : run.Exit) → run.exit score inputs l ≡ e → valueIn a ≡ valueOf (ofReply (e .reply))
-  value-is e q = read score inputs l m a c .value ∙ ap (λ x. valueOf (ofReply (x .reply))) q
+  value-is : (e : run.Exit) → run.exit score inputs l ≡ e → valueIn a ≡ valueOf (ofRunReply (e .reply))
+  value-is e q = read score inputs l m a c .value ∙ ap (λ x. valueOf (ofRunReply (x .reply))) q
 
   pub run-eleven : numberIn a ≡ 11 → ⊥
   run-eleven n = go (run.exit score inputs l) refl (outcome score inputs l)

@@ -7,13 +7,13 @@ use mathlib.Core.List.{List}
 use Prim.Native.Nat.{ℕ}
 use Rattle.history.specs.JournalCheckCall.{exit}
 use Rattle.score.specs.Answer.{packed}
-use Rattle.score.specs.ScoreRun.{ofReply}
+use Rattle.score.specs.ScoreRun.{ofRunReply}
 use Rattle.score.specs.Slice.{Slice}
 
 pub record ScoreJournalCheck (score journal before after : List ℕ) (answer : ℕ) : Type 0 where
   pub lent : Slice journal
   pub written : after ≡ exit score journal before .scratch
-  pub answered : answer ≡ packed (ofReply (exit score journal before .reply))
+  pub answered : answer ≡ packed (ofRunReply (exit score journal before .reply))
 
 abbrev pub OneExit : Type 0
 OneExit =

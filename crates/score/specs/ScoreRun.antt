@@ -1,5 +1,5 @@
 -- What a call of score_run does: what the run leaves in the lent buffers, and its reply as a number.
---     ofReply           the table's number and value for each reply of a run or a journal check
+--     ofRunReply           the table's number and value for each reply of a run or a journal check
 --     ScoreRun          the call's contract, over the bytes of the score and of the input list, of the three buffers
 --                       before and after, and the number returned
 --     OneExit           it settles every byte of those buffers and the number returned
@@ -13,21 +13,21 @@ use Rattle.score.specs.Answer.{Reply, accepted, refused, packed}
 use Rattle.score.specs.CheckCall.{ofVerdict}
 use Rattle.score.specs.Slice.{Slice}
 
-abbrev pub ofReply : Replied → Reply
-ofReply (Turned v) = ofVerdict v
-ofReply Lengths = refused 8 0
-ofReply State = refused 9 0
-ofReply Unlawful = refused 11 0
-ofReply Bytes = refused 12 0
-ofReply (Word k) = refused 13 k
-ofReply (Differs k) = refused 14 k
-ofReply (Full n) = refused 15 n
-ofReply (Accepted n) = accepted n
+abbrev pub ofRunReply : Replied → Reply
+ofRunReply (Turned v) = ofVerdict v
+ofRunReply Lengths = refused 8 0
+ofRunReply State = refused 9 0
+ofRunReply Unlawful = refused 11 0
+ofRunReply Bytes = refused 12 0
+ofRunReply (Word k) = refused 13 k
+ofRunReply (Differs k) = refused 14 k
+ofRunReply (Full n) = refused 15 n
+ofRunReply (Accepted n) = accepted n
 
 pub record ScoreRun (score inputs : List ℕ) (before after : Lent) (answer : ℕ) : Type 0 where
   pub lent : Slice inputs
   pub written : after ≡ exit score inputs before .lent
-  pub answered : answer ≡ packed (ofReply (exit score inputs before .reply))
+  pub answered : answer ≡ packed (ofRunReply (exit score inputs before .reply))
 
 abbrev pub OneExit : Type 0
 OneExit =

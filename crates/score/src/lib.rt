@@ -1,9 +1,11 @@
 ghost use mathlib.Core.Path.{_≡_};
-ghost use Prim.Native.Nat.{_<_, _^_};
+ghost use Prim.Native.Nat.{_<_, _≤_, _^_};
 ghost use Rattle.instant.specs.InstantCall.{lent};
+ghost use Rattle.history.specs.RunCall.{lent as lentToRun};
 ghost use Rattle.score.specs.Answer.{refused, settled, packed, Fits};
 ghost use Rattle.score.specs.CheckCall.{ofVerdict, CheckCall};
 ghost use Rattle.score.specs.ScoreInstant.{ofReply, ScoreInstant};
+ghost use Rattle.score.specs.ScoreRun.{ofRunReply, ScoreRun};
 use instant::Reply;
 use scorefile::Verdict;
 
@@ -28,6 +30,20 @@ pub extern "C" fn score_instant(
     ensures { λ r. ⌜ ScoreInstant (now (score .entry)) (now (input .entry)) (lent (now (state .entry)) (now (store .entry)) (now (output .entry)) (now (scratch .entry))) (lent (now (state .exit)) (now (store .exit)) (now (output .exit)) (now (scratch .exit))) r ⌝ }
 {
     of_reply(instant::call(score, state, input, store, output, scratch))
+}
+
+// Runs a score over an input list.
+#[no_mangle]
+pub extern "C" fn score_run(
+    score: &[u8],
+    state: &mut [u8],
+    inputs: &[u8],
+    journal: &mut [u8],
+    scratch: &mut [u8],
+) -> u64
+    ensures { λ r. ⌜ ScoreRun (now (score .entry)) (now (inputs .entry)) (lentToRun (now (state .entry)) (now (journal .entry)) (now (scratch .entry))) (lentToRun (now (state .exit)) (now (journal .exit)) (now (scratch .exit))) r ⌝ }
+{
+    of_run_reply(history::run(score, state, inputs, journal, scratch))
 }
 
 // A verdict as an answer.
@@ -55,6 +71,34 @@ fn of_reply(reply: Reply) -> u64
         Reply::Next => refusal(11, 0),
         Reply::Settled(status, count) => settling(status, count),
     }
+}
+
+// The reply of a run or a journal check as an answer.
+fn of_run_reply(reply: history::Reply) -> u64
+    requires { ⌜ Fits (ofRunReply reply) ⌝ }
+    ensures { λ r. ⌜ r ≡ packed (ofRunReply reply) ⌝ }
+{
+    match reply {
+        history::Reply::Score(verdict) => of_verdict(verdict),
+        history::Reply::Lengths => refusal(8, 0),
+        history::Reply::State => refusal(9, 0),
+        history::Reply::Unlawful => refusal(11, 0),
+        history::Reply::Bytes => refusal(12, 0),
+        history::Reply::Word(word) => wide(13, word),
+        history::Reply::Differs(instant) => wide(14, instant),
+        history::Reply::Full(instants) => wide(15, instants),
+        history::Reply::Accepted(instants) => instants as u64,
+    }
+}
+
+// An answer whose number may have a large value.
+fn wide(number: usize, value: usize) -> u64
+    requires { ⌜ 13 ≤ number ⌝ }
+    requires { ⌜ number ≤ 15 ⌝ }
+    requires { ⌜ value < 2 ^ 61 ⌝ }
+    ensures { λ r. ⌜ r ≡ packed (refused number value) ⌝ }
+{
+    (number as u64 - 11) * 0x2000_0000_0000_0000 + value as u64
 }
 
 // An answer whose number has a small value.

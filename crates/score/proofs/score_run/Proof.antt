@@ -1,0 +1,33 @@
+-- `score_run`: the reply, packed, and the buffers as the run left them.
+use native.Mathlib.Omega.{arith}
+use Rattle.score.specs.Slice.{Slice}
+use Rattle.score.proofs.ScoreRun.{called-fits, returned}
+use borrow.Author.Needs.{needs}
+use Rattle.score.proofs.score_run.Statement.{statement}
+use Rattle.score.proofs.score_run.Tie as tie
+
+slice : (c : tie.After-shared-slice-known2) → Slice (c .before .before .before .args .inputs .now)
+slice c = record { few = omega (arith, c .before .before .before .good .1 .1 .0 .1); small = λ i. omega (arith, c .shared-slice-known2 .given i) }
+
+run-requires : tie.Need-run-requires
+run-requires c κs = search needs
+
+of-run-reply-requires : tie.Need-of-run-reply-requires
+of-run-reply-requires c κs = called-fits (slice (c .before .before .before .before .before .before .before .before .before .before .before .before)) (c .before .before .before .before .before .before .run .ensures)
+
+same-length : tie.Need-same-length
+same-length c = search needs
+
+same-length-2 : tie.Need-same-length-2
+same-length-2 c = search needs
+
+same-length-3 : tie.Need-same-length-3
+same-length-3 c = search needs
+
+returns : tie.Need-returns
+returns c = returned (slice (c .before .before .before .before .before .before .before .before .before .before .before .before .before)) (c .before .before .before .before .before .before .before .run .ensures) (c .of-run-reply .ensures)
+
+pub score-run-spec : {M : Type 1} → statement M
+score-run-spec =
+    tie.close
+    (tie.spec run-requires of-run-reply-requires same-length same-length-2 same-length-3 returns)
