@@ -3,10 +3,11 @@
 --     Within           an answer's agents are the score's, and its tokens too
 --     answer-within    from a lawful state, on inputs below T, it is so
 --     status-few       the statuses
---     next-lawful      so the next state does not meet number 9
+--     after-lawful     so the next state is lawful
+--     next-lawful      and does not meet number 9
 --     flags-known      no flag of a set is set from past its members on
 --     state-written, store-written, output-written     the buffers of the answer
-use mathlib.Core.Path.{_≡_, refl, sym, ap, subst⁻¹, _∙_}
+use mathlib.Core.Path.{_≡_, refl, ap, _∙_}
 use mathlib.Core.Bool.{Bool, true, false, cond}
 use mathlib.Core.List.{List, [], _∷_, map, List·Memᴰ}
 use Prim.Native.Nat.{ℕ, suc, _+_, _-_, _<_, _≤_}
@@ -64,13 +65,16 @@ status-few sc (running agents) inputs = go (any (λ i. isAbort (agentAt sc i)) (
     go false true = omega arith
     go false false = omega arith
 
-pub next-lawful : (sc : Score) (a : Answer) (n : ℕ) → length (sc .agents) ≡ n → n ≤ 1024 → Inside sc a → stateFault n (asBytes (after a)) ≡ false
+pub after-lawful : (sc : Score) (a : Answer) (n : ℕ) → length (sc .agents) ≤ n → Inside sc a → LawfulState n (after a)
 unfolding LawfulState
-next-lawful sc a n e few i = lawful-bytes n few (after a) (go (eqb (a .status) 2))
+after-lawful sc a n few i = go (eqb (a .status) 2)
   where
     go : (b : Bool) → LawfulState n (cond b aborted (running (a .awake)))
     go true = tt
     go false = λ j m. omega (arith, i .agents j m)
+
+pub next-lawful : (sc : Score) (a : Answer) (n : ℕ) → length (sc .agents) ≡ n → n ≤ 1024 → Inside sc a → stateFault n (asBytes (after a)) ≡ false
+next-lawful sc a n e few i = lawful-bytes n few (after a) (after-lawful sc a n (omega arith) i)
 
 pub state-written : (sc : Score) (a : Answer) → length (sc .agents) ≤ 1024 → Inside sc a →
     bytesOf (cond (eqb (a .status) 2) abortedWord runningWord ∷ agentWords (setOf (flagsOf 1024 (a .awake)))) ≡ asBytes (after a)

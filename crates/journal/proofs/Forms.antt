@@ -1,44 +1,51 @@
 -- What a good form says of the words of a list or journal.
+--     wordsOf            the words of a kind; of-kind, of-another, one word more
+--     upTo-instant, upTo-another     one word more before the next instant word
 --     Follows            what a word has that may follow another
 --     good-step          of a good form each word follows the one before
 --     After              a word of an instant, with the input and output tokens up to it that a later one must exceed
 --     Part               the words of an instant after such a word: tokens rise, inputs before outputs
 --     good-part          those up to the next instant word
 --     good-inputs        the input tokens of each instant rise
+--     WellFormed         the words of one instant, as the form asks
+--     good-instants      those of each instant of a good form
+--     good-whole         a good form has whole words
+--     good-words         the instants of a good form, one after the other, are its words
+--     bytes-words        bytes that are whole words are the bytes of their words
 use mathlib.Core.Path.{_≡_, refl, sym, ap, ap₂, subst⁻¹, _∙_}
 use mathlib.Core.Bool.{Bool, true, false, cond, _&&_, _||_}
-use mathlib.Core.List.{List, [], _∷_, _++_, map, List·Memᴰ, List·Memᴰ·head, List·Memᴰ·tail}
+use mathlib.Core.List.{List, [], _∷_, _++_, map, flatten, List·Memᴰ, List·Memᴰ·head, List·Memᴰ·tail}
 use mathlib.Core.Logic.{_⊎_, inl, inr, ⊎-elim}
-use Prim.Native.Nat.{ℕ, zero, suc, _+_, _*_, _%_, _^_, _<_, _≤_}
+use Prim.Native.Nat.{ℕ, suc, _+_, _*_, _/_, _%_, _^_, _<_}
 use native.Mathlib.Omega.{arith}
 use borrow.Author.Tests.{eqb-true, eq-eqb, ne-eqb, ltb-true}
 use lib.Dec.{eqb, ltb}
-use lib.ListN.{length}
+use lib.ListN.{length, getD}
+use lib.Pow.{shr-mod, shr-shr, split}
 use Rattle.tcc.specs.Sets.{keep}
-use Rattle.tcc.proofs.Sets.{Within, true-is-false, and-both, on-cons, on-map}
-use Rattle.words.specs.Word.{words, field, kind}
+use Rattle.tcc.proofs.Sets.{Within, true-is-false, and-both, on-cons, on-map, on-keep}
+use Rattle.words.specs.Word.{joined, words, field, kind}
 use Rattle.format.specs.Format.{clear, isWord}
-use Rattle.journal.specs.declared.Form.{Form}
+use Rattle.lent.specs.Bits.{bytesOf}
 use Rattle.journal.specs.declared.Form.the-variants.{Good, Bytes, Word}
 use Rattle.journal.specs.Form.{tokenOf, statusOf, isInstant, rises, mayFollow, firstAgainst, formOf}
 use Rattle.journal.specs.Instants.{upTo, instantsIn, tokensOf, inputsIn, inputLists}
-use Rattle.journal.specs.History.{Rising, none, one, more}
+use Rattle.journal.specs.History.{instantWord, instantWords, Rising, none, one, more}
 
--- the words of a kind
 abbrev pub wordsOf : ℕ → List ℕ → List ℕ
 wordsOf k ws = keep (λ w. eqb (kind w) k) ws
 
-of-kind : (k w : ℕ) (ws : List ℕ) → kind w ≡ k → wordsOf k (w ∷ ws) ≡ w ∷ wordsOf k ws
+pub of-kind : (k w : ℕ) (ws : List ℕ) → kind w ≡ k → wordsOf k (w ∷ ws) ≡ w ∷ wordsOf k ws
 of-kind k w ws e = rw (eq-eqb (kind w) k e)
 
-of-another : (k w : ℕ) (ws : List ℕ) → (kind w ≡ k → ⊥) → wordsOf k (w ∷ ws) ≡ wordsOf k ws
+pub of-another : (k w : ℕ) (ws : List ℕ) → (kind w ≡ k → ⊥) → wordsOf k (w ∷ ws) ≡ wordsOf k ws
 of-another k w ws n = rw (ne-eqb (kind w) k n)
 
-upTo-instant : (w : ℕ) (ws : List ℕ) → kind w ≡ 12 → upTo (w ∷ ws) ≡ []
+pub upTo-instant : (w : ℕ) (ws : List ℕ) → kind w ≡ 12 → upTo (w ∷ ws) ≡ []
 unfolding upTo
 upTo-instant w ws e = rw (eq-eqb (kind w) 12 e)
 
-upTo-another : (w : ℕ) (ws : List ℕ) → (kind w ≡ 12 → ⊥) → upTo (w ∷ ws) ≡ w ∷ upTo ws
+pub upTo-another : (w : ℕ) (ws : List ℕ) → (kind w ≡ 12 → ⊥) → upTo (w ∷ ws) ≡ w ∷ upTo ws
 unfolding upTo
 upTo-another w ws n = rw (ne-eqb (kind w) 12 n)
 
@@ -225,3 +232,142 @@ pub good-inputs : (journal : Bool) (T : ℕ) (bytes : List ℕ) → formOf journ
 unfolding inputLists
 good-inputs journal T bytes g =
     on-map (Rising T) inputsIn (instantsIn (words bytes)) (λ ws m. led-inputs (good-led journal T (words bytes) 0 0 (good-bytes journal T bytes g .words-good) ws m))
+
+-- ---- the words themselves
+
+pub record WellFormed (journal : Bool) (T : ℕ) (ws : List ℕ) : Type 0 where
+  pub is : ws ≡ instantWords (statusOf (getD ws 0 0)) (inputsIn ws) (tokensOf 14 ws)
+  pub status : statusOf (getD ws 0 0) < cond journal 3 1
+  pub inputs : Rising T (inputsIn ws)
+  pub outputs : Rising T (tokensOf 14 ws)
+  pub silent : journal ≡ false → tokensOf 14 ws ≡ []
+
+-- a word of 32 bits with no unnamed bit is its kind and its lowest bits
+instant-rebuilt : (w : ℕ) → HasForm 12 2 w → w < 2 ^ 32 → instantWord (statusOf w) ≡ w
+unfolding field
+instant-rebuilt w f h = by-parts w (w / 2 ^ 2) (w / 2 ^ 2 / 2 ^ 26) (split w 2) (split (w / 2 ^ 2) 26) (eqb-true (field w 2 26) 0 (f .is-clear))
+    (shr-shr w 2 26 ∙ sym (shr-mod {n = w} 4 28 h) ∙ f .kind-is)
+  where
+    by-parts : (w d e : ℕ) → d * 2 ^ 2 + w % 2 ^ 2 ≡ w → e * 2 ^ 26 + d % 2 ^ 26 ≡ d → d % 2 ^ 26 ≡ 0 → e ≡ 12 → instantWord (statusOf w) ≡ w
+    by-parts w d e p q r s = omega arith
+
+token-rebuilt : (k w : ℕ) → kind w ≡ k → clear 8 w ≡ true → w < 2 ^ 32 → k * 2 ^ 28 + tokenOf w ≡ w
+unfolding field
+token-rebuilt k w e c h = omega (arith, eqb-true (field w 8 20) 0 c)
+
+tokens-rebuilt : (k : ℕ) (ws : List ℕ) → Within (λ w. k * 2 ^ 28 + tokenOf w ≡ w) ws → map (λ t. k * 2 ^ 28 + t) (map tokenOf ws) ≡ ws
+tokens-rebuilt k [] h = refl
+tokens-rebuilt k (w ∷ ws) h = ap₂ _∷_ (h w (List·Memᴰ·head refl)) (tokens-rebuilt k ws (λ x m. h x (List·Memᴰ·tail m)))
+
+kind-rebuilt : (k : ℕ) (ws : List ℕ) → Within (λ w. w < 2 ^ 32) ws → Within (λ w. clear 8 w ≡ true) ws → map (λ t. k * 2 ^ 28 + t) (map tokenOf (wordsOf k ws)) ≡ wordsOf k ws
+kind-rebuilt k ws small cleared =
+    tokens-rebuilt k (wordsOf k ws)
+    (on-keep {P = λ w. k * 2 ^ 28 + tokenOf w ≡ w} (λ w. eqb (kind w) k) ws (λ w m e. token-rebuilt k w (eqb-true (kind w) k e) (cleared w m) (small w m)))
+
+led-formed : {journal : Bool} {T : ℕ} {ws : List ℕ} → Led journal T ws → Within (λ w. w < 2 ^ 32) ws → WellFormed journal T ws
+unfolding tokensOf instantWords
+led-formed {journal} {T} {ws} l = subst⁻¹ (λ x. Within (λ w. w < 2 ^ 32) x → WellFormed journal T x) (l .is) formed
+  where
+    later : (k : ℕ) → (12 ≡ k → ⊥) → wordsOf k (l .word ∷ l .rest) ≡ wordsOf k (l .rest)
+    later k n = of-another k (l .word) (l .rest) (λ e. n (sym (l .form .kind-is) ∙ e))
+
+    formed : Within (λ w. w < 2 ^ 32) (l .word ∷ l .rest) → WellFormed journal T (l .word ∷ l .rest)
+    formed small =
+        let rest-small : Within (λ w. w < 2 ^ 32) (l .rest) = λ w m. small w (List·Memᴰ·tail m) in
+        let p = l .part in
+        let ins : inputsIn (l .word ∷ l .rest) ≡ inputsIn (l .rest) = ap (map tokenOf) (later 13 (λ e. omega arith)) in
+        let outs : tokensOf 14 (l .word ∷ l .rest) ≡ tokensOf 14 (l .rest) = ap (map tokenOf) (later 14 (λ e. omega arith)) in
+        record {
+          is =
+              ap₂ _∷_ (sym (instant-rebuilt (l .word) (l .form) (small (l .word) (List·Memᴰ·head refl))))
+              (sym (ap₂ _++_ (kind-rebuilt 13 (l .rest) rest-small (p .cleared)) (kind-rebuilt 14 (l .rest) rest-small (p .cleared)) ∙ p .in-order))
+              ∙ sym (ap₂ (instantWords (statusOf (l .word))) ins outs);
+          status = l .status;
+          inputs = subst⁻¹ (Rising T) ins (p .inputs);
+          outputs = subst⁻¹ (Rising T) outs (p .outputs);
+          silent = λ e. outs ∙ ap (map tokenOf) (p .silent e);
+        }
+
+words-small : (bytes : List ℕ) → ((i : ℕ) → getD bytes i 0 < 2 ^ 8) → Within (λ w. w < 2 ^ 32) (words bytes)
+unfolding words
+words-small [] h = λ w m. elim m [ ]
+words-small (a ∷ []) h = λ w m. elim m [ ]
+words-small (a ∷ b ∷ []) h = λ w m. elim m [ ]
+words-small (a ∷ b ∷ c ∷ []) h = λ w m. elim m [ ]
+words-small (a ∷ b ∷ c ∷ d ∷ s) h =
+    on-cons {P = λ w. w < 2 ^ 32} (omega (arith, h 0, h 1, h 2, h 3)) (words-small s (λ i. h (suc (suc (suc (suc i))))))
+
+upTo-within : {P : ℕ → Type 0} (ws : List ℕ) → Within P ws → Within P (upTo ws)
+unfolding upTo
+upTo-within [] h = h
+upTo-within {P} (w ∷ ws) h = go (isInstant w) (upTo-within ws (λ x m. h x (List·Memᴰ·tail m)))
+  where
+    go : (b : Bool) → Within P (upTo ws) → Within P (cond b [] (w ∷ upTo ws))
+    go true later = λ x m. elim m [ ]
+    go false later = on-cons (h w (List·Memᴰ·head refl)) later
+
+instants-within : {P : ℕ → Type 0} (ws : List ℕ) → Within P ws → Within (Within P) (instantsIn ws)
+unfolding instantsIn
+instants-within [] h = λ x m. elim m [ ]
+instants-within {P} (w ∷ ws) h = go (isInstant w) (instants-within ws rest)
+  where
+    rest : Within P ws
+    rest x m = h x (List·Memᴰ·tail m)
+
+    go : (b : Bool) → Within (Within P) (instantsIn ws) → Within (Within P) (cond b ((w ∷ upTo ws) ∷ instantsIn ws) (instantsIn ws))
+    go true later = on-cons {P = Within P} (on-cons (h w (List·Memᴰ·head refl)) (upTo-within ws rest)) later
+    go false later = later
+
+pub good-instants : (journal : Bool) (T : ℕ) (bytes : List ℕ) → formOf journal T bytes ≡ Good → ((i : ℕ) → getD bytes i 0 < 2 ^ 8) → (ws : List ℕ) → List·Memᴰ ws (instantsIn (words bytes)) → WellFormed journal T ws
+good-instants journal T bytes g small ws m =
+    led-formed (good-led journal T (words bytes) 0 0 (good-bytes journal T bytes g .words-good) ws m) (instants-within (words bytes) (words-small bytes small) ws m)
+
+-- whatever its form: the words before the first instant, then the instants
+upTo-joined : (ws : List ℕ) → upTo ws ++ flatten (instantsIn ws) ≡ ws
+unfolding upTo instantsIn flatten
+upTo-joined [] = refl
+upTo-joined (w ∷ ws) = go (isInstant w) (upTo-joined ws)
+  where
+    go : (b : Bool) → upTo ws ++ flatten (instantsIn ws) ≡ ws → cond b [] (w ∷ upTo ws) ++ flatten (cond b ((w ∷ upTo ws) ∷ instantsIn ws) (instantsIn ws)) ≡ w ∷ ws
+    go true later = ap (λ l. w ∷ l) later
+    go false later = ap (λ l. w ∷ l) later
+
+-- the first word starts an instant
+good-start : (journal : Bool) (T k last : ℕ) (ws : List ℕ) → kind last ≡ 0 → firstAgainst journal T k last ws ≡ Good → upTo ws ≡ []
+unfolding upTo
+good-start journal T k last [] z g = refl
+good-start journal T k last (w ∷ ws) z g = go (good-step journal T k last w ws g .0)
+  where
+    go : Follows journal T last w → upTo (w ∷ ws) ≡ []
+    go (instant f h) = upTo-instant w ws (f .kind-is)
+    go (input f h (inl e)) = absurd (omega arith)
+    go (input f h (inr r)) = absurd (omega (arith, r .kind-is))
+    go (output j f h (inl (inl e))) = absurd (omega arith)
+    go (output j f h (inl (inr e))) = absurd (omega arith)
+    go (output j f h (inr r)) = absurd (omega (arith, r .kind-is))
+
+no-kind : kind 0 ≡ 0
+unfolding field
+no-kind = refl
+
+pub good-words : (journal : Bool) (T : ℕ) (bytes : List ℕ) → formOf journal T bytes ≡ Good → words bytes ≡ flatten (instantsIn (words bytes))
+good-words journal T bytes g =
+    sym (upTo-joined (words bytes))
+    ∙ ap (λ l. l ++ flatten (instantsIn (words bytes))) (good-start journal T 0 0 (words bytes) no-kind (good-bytes journal T bytes g .words-good))
+
+pub good-whole : (journal : Bool) (T : ℕ) (bytes : List ℕ) → formOf journal T bytes ≡ Good → length bytes % 4 ≡ 0
+good-whole journal T bytes g = good-bytes journal T bytes g .whole
+
+-- the bytes of a word joined from four
+digits : (a b c d w : ℕ) → a < 2 ^ 8 → b < 2 ^ 8 → c < 2 ^ 8 → d < 2 ^ 8 → joined a b c d ≡ w → (w % 2 ^ 8 ≡ a) × (w / 2 ^ 8 % 2 ^ 8 ≡ b) × (w / 2 ^ 16 % 2 ^ 8 ≡ c) × (w / 2 ^ 24 % 2 ^ 8 ≡ d)
+digits a b c d w ha hb hc hd e = (omega arith, omega arith, omega arith, omega arith)
+
+pub bytes-words : (bytes : List ℕ) → ((i : ℕ) → getD bytes i 0 < 2 ^ 8) → length bytes % 4 ≡ 0 → bytesOf (words bytes) ≡ bytes
+unfolding words bytesOf
+bytes-words [] h e = refl
+bytes-words (a ∷ []) h e = absurd (omega arith)
+bytes-words (a ∷ b ∷ []) h e = absurd (omega arith)
+bytes-words (a ∷ b ∷ c ∷ []) h e = absurd (omega arith)
+bytes-words (a ∷ b ∷ c ∷ d ∷ s) h e =
+    let x = digits a b c d (joined a b c d) (h 0) (h 1) (h 2) (h 3) refl in
+    ap₂ _∷_ (x .0) (ap₂ _∷_ (x .1) (ap₂ _∷_ (x .2) (ap₂ _∷_ (x .3) (bytes-words s (λ i. h (suc (suc (suc (suc i))))) (omega arith)))))

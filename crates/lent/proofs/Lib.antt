@@ -7,3 +7,4 @@ pub mod Tokens
 pub mod Faults
 pub mod Gathered
 pub mod Round
+pub mod SameState

@@ -1,3 +1,5 @@
 pub mod Answer
 pub mod CheckCall
 pub mod ScoreInstant
+pub mod ScoreRun
+pub mod ScoreJournalCheck

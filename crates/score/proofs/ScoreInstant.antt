@@ -13,7 +13,7 @@ use native.Mathlib.Omega.{arith}
 use borrow.Author.Tests.{le-leb, ne-eqb, eqb-false}
 use lib.Dec.{eqb, leb}
 use lib.ListN.{length, length-map, length-take, length-append}
-use Rattle.tcc.specs.Sets.{below, keep, any, has}
+use Rattle.tcc.specs.Sets.{below, keep, any}
 use Rattle.tcc.specs.Score.{Score, agentAt}
 use Rattle.tcc.specs.Instant.{State as Between, running, aborted, Answer, count, abortedAnswer, quietAnswer, liveIn, heldIn, isAbort, reached, instant, answer, after}
 use Rattle.format.specs.Decode.{sizes, decode}
@@ -28,6 +28,7 @@ use Rattle.lent.specs.States.{stateFault, stateOf, asBytes}
 use Rattle.instant.specs.declared.Reply.{Reply as Replied}
 use Rattle.instant.specs.declared.Reply.the-variants.{Score as Turned, Lengths, State, Input, Next, Settled}
 use Rattle.instant.specs.InstantCall.{Lent, Exit, lengthFault, tokenFault, kept, exit, InstantCall}
+use Rattle.journal.proofs.Histories.{answer-status}
 use Rattle.score.specs.Answer.{numberOf, valueOf, statusOf, countOf, Fits, packed, Reads}
 use Rattle.score.specs.ScoreInstant.{ofReply, ScoreInstant, OneExit, OneAnswer}
 use Rattle.score.proofs.Answer.{exact}
@@ -36,9 +37,8 @@ use Rattle.score.proofs.CheckCall.{reply-number, reply-value, reply-fit
 pub one-exit : OneExit
 one-exit score input before after₁ after₂ a b p q = (p .written ∙ sym (q .written), p .answered ∙ sym (q .answered))
 
--- an answer's status is 0, 1 or 2, and no more agents are reduced than the score has
+-- no more agents are reduced than the score has
 record Bounded (sc : Score) (a : Answer) : Type 0 where
-  status : a .status ≤ 2
   count : count a ≤ length (sc .agents)
 
 below-length : (n : ℕ) → length (below n) ≡ n
@@ -56,20 +56,16 @@ keep-length f (x ∷ l) = go (f x) (keep-length f l)
 keep-below : (f : ℕ → Bool) (n : ℕ) → length (keep f (below n)) ≤ n
 keep-below f n = omega (arith, keep-length f (below n), below-length n)
 
-clash-small : (b : Bool) → cond b 1 0 ≤ 2
-clash-small true = omega arith
-clash-small false = omega arith
-
 either-bounded : (sc : Score) (b : Bool) (store lives : List ℕ) → Bounded sc (cond b abortedAnswer (quietAnswer sc store lives))
-either-bounded sc true store lives = record { status = omega arith; count = omega arith }
-either-bounded sc false store lives = record { status = clash-small (has 0 store); count = keep-below _ (length (sc .agents)) }
+either-bounded sc true store lives = record { count = omega arith }
+either-bounded sc false store lives = record { count = keep-below _ (length (sc .agents)) }
 
 answer-bounded : (sc : Score) (st : Between) (inputs : List ℕ) → Bounded sc (answer sc st inputs)
 unfolding answer instant
 answer-bounded sc (running agents) inputs =
     let facts = reached sc agents inputs in
     either-bounded sc (any (λ i. isAbort (agentAt sc i)) (liveIn facts)) (heldIn facts) (liveIn facts)
-answer-bounded sc aborted inputs = record { status = omega arith; count = omega arith }
+answer-bounded sc aborted inputs = record { count = omega arith }
 
 agents-few : (s : List ℕ) → length (decode s .agents) ≤ 1024
 unfolding decode
@@ -98,8 +94,11 @@ checked-first v l {y} h q = go (eqb (check.numberOf v) 0) refl
     go true e = q
     go false e = record { proper = turned v (eqb-false (check.numberOf v) 0 e) h }
 
-answered-proper : (score : List ℕ) (a : Answer) → Bounded (decode score) a → Proper (Settled (a .status) (count a))
-answered-proper score a b = settles (a .status) (count a) (omega (arith, b .status)) (omega (arith, b .count, agents-few score))
+answered-proper : (score : List ℕ) (st : Between) (inputs : List ℕ) → let a = answer (decode score) st inputs in Proper (Settled (a .status) (count a))
+answered-proper score st inputs =
+    let sc = decode score in
+    let a = answer sc st inputs in
+    settles (a .status) (count a) (omega (arith, answer-status sc st inputs)) (omega (arith, answer-bounded sc st inputs .count, agents-few score))
 
 exit-replies : (score given : List ℕ) (l : Lent) → Replies (exit score given l)
 unfolding exit
@@ -110,7 +109,7 @@ exit-replies score given l =
     (either (stateFault (sizes score .agents) (l .state)) (record { proper = state })
     (either (tokenFault score given) (record { proper = input })
     (either (stateFault (sizes score .agents) (asBytes (after a))) (record { proper = follows })
-    (record { proper = answered-proper score a (answer-bounded (decode score) (stateOf (l .state)) (tokensIn given)) })))))
+    (record { proper = answered-proper score (stateOf (l .state)) (tokensIn given) })))))
 
 proper-fits : {r : Replied} → Proper r → Fits (ofReply r)
 proper-fits (turned v n h) = reply-fits (check.numberOf v) (check.valueOf v) (number-few v) h

@@ -13,3 +13,4 @@ pub mod Moves
 pub mod Finishes
 pub mod SameCopies
 pub mod Chain
+pub mod SameAnswer

@@ -1,0 +1,113 @@
+-- The end of an order, held against the bytes of an answered instant.
+--     ends-same            an end that agrees with an answer agrees with any answer that is the same
+--     quiet-status         the status by the store, as a number
+--     leaves               an end that agrees with the definition's answer gives the instant's bytes
+--     ends-like            and is read off them
+--     from-aborted         from an aborted state nothing is reduced
+use mathlib.Core.Path.{_≡_, refl, sym, ap, subst, subst⁻¹, _∙_}
+use mathlib.Core.Bool.{Bool, true, false, cond}
+use mathlib.Core.List.{List, [], _∷_, map, List·Memᴰ}
+use Prim.Native.Nat.{ℕ, suc, _+_, _-_, _<_}
+use native.Mathlib.Omega.{arith}
+use borrow.Author.Tests.{lt-ltb, ne-eqb}
+use lib.Dec.{ltb}
+use Rattle.tcc.specs.Sets.{Same, below, keep, has}
+use Rattle.tcc.specs.Score.{Score}
+use Rattle.tcc.specs.Order.{Item, End, aborted, left, awakeNext}
+use Rattle.tcc.specs.Instant.{Answer, abortedAnswer, output, running, answer, after}
+use Rattle.tcc.specs.Instant as state
+use Rattle.tcc.specs.Confluence.{QuietAs, EndsAs}
+use Rattle.tcc.proofs.Sets.{Within, true-is-false, has-member, member-has, on-keep, keep-kept, same-sym, same-trans}
+use Rattle.tcc.proofs.SameAnswer.{SameAnswer}
+use Rattle.format.specs.Decode.{decode}
+use Rattle.lent.specs.Maps.{tokensIn, mapOf}
+use Rattle.lent.specs.States.{stateOf, asBytes, SameState}
+use Rattle.lent.proofs.Round.{asBytes-same, mapOf-same, map-round}
+use Rattle.lent.proofs.SameState.{state-running, state-aborted}
+use Rattle.journal.specs.History as journal
+use Rattle.journal.proofs.Rising.{rising-map, output-same}
+use Rattle.demands.specs.Calls.{Answered}
+use Rattle.demands.specs.Determinacy.{EndsLike}
+use Rattle.demands.specs.Operational.{Holds, Leaves}
+use Rattle.demands.proofs.Accepted.{given, lawful}
+use Rattle.demands.proofs.Instants.{IsInstant, instant-inside, after-round}
+
+pub ends-same : (sc : Score) (e : End) {a b : Answer} → SameAnswer a b → (a .status ≡ 2 → a ≡ abortedAnswer) → EndsAs sc e b → EndsAs sc e a
+ends-same sc aborted same whole h = whole (same .status ∙ ap (λ x. x .status) h)
+ends-same sc (left l s) same whole h = record {
+  unaborted = λ e. h .unaborted (sym (same .status) ∙ e);
+  store = same-trans (h .store) (same-sym (same .store));
+  clash = λ m. same .status ∙ h .clash m;
+  no-clash = λ n. same .status ∙ h .no-clash n;
+  awake = same-trans (h .awake) (same-sym (same .awake));
+}
+
+quiet-status : {sc : Score} {l : List Item} {s : List ℕ} {a : Answer} → QuietAs sc l s a → a .status ≡ cond (has 0 s) 1 0
+quiet-status {s = s} {a = a} q = go (has 0 s) refl
+  where
+    go : (b : Bool) → has 0 s ≡ b → a .status ≡ cond b 1 0
+    go true e = q .clash (has-member 0 s e)
+    go false e = q .no-clash (λ m. true-is-false (member-has m) e)
+
+quiet-after : {sc : Score} {l : List Item} {s : List ℕ} {a : Answer} → QuietAs sc l s a → after a ≡ running (a .awake)
+quiet-after {a = a} q = rw (ne-eqb (a .status) 2 (q .unaborted))
+
+keep-nothing : (l : List ℕ) → keep (λ t. has t []) l ≡ []
+keep-nothing [] = refl
+keep-nothing (x ∷ l) = keep-nothing l
+
+no-output : (sc : Score) (status : ℕ) → output sc status [] ≡ []
+unfolding output
+no-output sc status = keep-nothing (map (λ k. sc .lowest-port + k) (below (suc (sc .highest-port) - sc .lowest-port)))
+
+-- the tokens of a map of tokens below 256
+map-back : (l : List ℕ) → Within (λ t. t < 256) l → Same (tokensIn (mapOf l)) l
+map-back l within = same-trans (map-round l) (λ t. (
+  λ m. on-keep {P = λ u. List·Memᴰ u l} (λ u. ltb u 256) l (λ u k p. k) t m,
+  λ m. keep-kept (λ u. ltb u 256) m (lt-ltb t 256 (within t m)),
+))
+
+module _ {score : List ℕ} {p : Answered} (h : IsInstant score p) where
+  abbrev now : Answer
+  now = given score (p .before) (p .inputs)
+
+  aborted-holds : now ≡ abortedAnswer → Holds p 2 (mapOf []) (mapOf []) (asBytes state.aborted)
+  aborted-holds e = record {
+    status-is = ap (λ q. q .status) (h .is) ∙ ap (λ a. a .status) e;
+    store-is = ap (λ q. q .store) (h .is) ∙ ap (λ a. mapOf (a .store)) e;
+    output-is = ap (λ q. q .output) (h .is) ∙ ap (λ a. mapOf (output (decode score) (a .status) (a .store))) e ∙ ap mapOf (no-output (decode score) 2);
+    after-is = ap (λ q. q .after) (h .is) ∙ ap (λ a. asBytes (after a)) e;
+  }
+
+  pub leaves : (e : End) → EndsAs (decode score) e now → Leaves (decode score) e p
+  unfolding SameState
+  leaves aborted e = aborted-holds e
+  leaves (left l s) q = record {
+    status-is = ap (λ r. r .status) (h .is) ∙ quiet-status q;
+    store-is = ap (λ r. r .store) (h .is) ∙ mapOf-same (same-sym (q .store));
+    output-is = ap (λ r. r .output) (h .is) ∙ ap (λ n. mapOf (output (decode score) n (now .store))) (quiet-status q) ∙ ap mapOf (output-same (decode score) (cond (has 0 s) 1 0) (same-sym (q .store)));
+    after-is = ap (λ r. r .after) (h .is) ∙ ap asBytes (quiet-after q) ∙ asBytes-same (running (now .awake)) (running (awakeNext (decode score) l)) (same-sym (q .awake));
+  }
+
+  pub ends-like : (e : End) → EndsAs (decode score) e now → EndsLike (decode score) e p
+  ends-like aborted e = let holds = aborted-holds e in record {
+    status = holds .status-is;
+    no-store = ap tokensIn (holds .store-is) ∙ rising-map 0 [] (omega arith) journal.Rising.none;
+    is-aborted = state-aborted (stateOf (p .after)) (subst (λ a. SameState (stateOf (p .after)) (after a)) e (after-round h));
+  }
+  ends-like (left l s) q =
+      let few = lawful score (h .accepted) .most-tokens in
+      let back : Same (tokensIn (p .store)) (now .store) = subst⁻¹ (λ (r : Answered). Same (tokensIn (r .store)) (now .store)) (h .is) (map-back (now .store) (λ t m. omega (arith, instant-inside h .tokens t m))) in
+      let runs = state-running (p .after) (now .awake) (subst (λ st. SameState (stateOf (p .after)) st) (quiet-after q) (after-round h)) in
+      let status : p .status ≡ now .status = ap (λ r. r .status) (h .is) in
+      record {
+        store = same-trans (q .store) (same-sym back);
+        clash = λ m. status ∙ q .clash m;
+        no-clash = λ n. status ∙ q .no-clash n;
+        is-running = runs .0;
+        awake = same-trans (q .awake) (same-sym (runs .1));
+      }
+
+  pub from-aborted : stateOf (p .before) ≡ state.aborted → Holds p 2 (mapOf []) (mapOf []) (asBytes state.aborted)
+  unfolding answer
+  from-aborted e = aborted-holds (ap (λ st. answer (decode score) st (p .inputs)) e)

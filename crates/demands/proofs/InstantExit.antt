@@ -1,0 +1,60 @@
+-- The exits of an instant call.
+--     Fit                  what the tests of 1 to 10 leave: the score, the lengths, the state and the input are right
+--     Outcome              a refusal by a number that is neither 0 nor 11, which leaves all as it was; or the answer
+--     outcome              there is no other exit
+--     fit-answered         where all is right, the answer is the exit
+use mathlib.Core.Path.{_≡_, refl, sym, _∙_}
+use mathlib.Core.Bool.{false, not}
+use mathlib.Core.List.{List}
+use Prim.Native.Nat.{ℕ}
+use native.Mathlib.Omega.{arith}
+use borrow.Author.Tests.{eqb-true, eqb-false, not-true, not-false}
+use lib.Dec.{eqb}
+use Rattle.tcc.specs.Instant.{after}
+use Rattle.tcc.proofs.Sets.{true-is-false}
+use Rattle.format.specs.Decode.{sizes, decode}
+use Rattle.scorefile.specs.declared.Verdict.{Verdict}
+use Rattle.scorefile.specs.Check as check
+use Rattle.scorefile.proofs.Values.{number-few}
+use Rattle.lent.specs.Maps.{tokensIn}
+use Rattle.lent.specs.States.{stateFault, asBytes}
+use Rattle.instant.specs.declared.Reply.{Reply}
+use Rattle.instant.specs.declared.Reply.the-variants.{Score as Turned, Lengths, State, Input}
+use Rattle.instant.specs.InstantCall.{Lent, Exit, lengthFault, tokenFault, kept, answered, exit}
+use Rattle.instant.proofs.Exits.{settled}
+use Rattle.score.specs.Answer.{numberOf}
+use Rattle.score.specs.ScoreInstant.{ofReply}
+use Rattle.score.proofs.CheckCall.{reply-number}
+use Rattle.demands.proofs.Tests.{by-test}
+use Rattle.demands.proofs.Accepted.{given, next-faultless, input-known}
+
+pub record Fit (score input : List ℕ) (l : Lent) : Type 0 where
+  pub accepted : check.numberOf (check.verdict score) ≡ 0
+  pub long : lengthFault input l ≡ false
+  pub faultless : stateFault (sizes score .agents) (l .state) ≡ false
+  pub known : tokenFault score input ≡ false
+
+pub data Outcome (score input : List ℕ) (l : Lent) : Exit → Type 0 where
+  refuses : (r : Reply) → (numberOf (ofReply r) ≡ 0 → ⊥) → (numberOf (ofReply r) ≡ 11 → ⊥) → Outcome score input l (kept l r)
+  answers : Fit score input l → Outcome score input l (answered (decode score) (given score (l .state) (tokensIn input)))
+
+module _ (score input : List ℕ) (l : Lent) where
+  turned-down : (v : Verdict) → (check.numberOf v ≡ 0 → ⊥) → Outcome score input l (kept l (Turned v))
+  turned-down v n = refuses (Turned v) (λ e. n (sym (reply-number (check.numberOf v) (check.valueOf v)) ∙ e)) (λ e. omega (arith, number-few v, reply-number (check.numberOf v) (check.valueOf v)))
+
+  pub outcome : Outcome score input l (exit score input l)
+  unfolding exit
+  outcome =
+      by-test (Outcome score input l) (not (eqb (check.numberOf (check.verdict score)) 0)) (λ e. turned-down (check.verdict score) (eqb-false (check.numberOf (check.verdict score)) 0 (not-true (eqb (check.numberOf (check.verdict score)) 0) e)))
+      (λ ok. let accepted = eqb-true (check.numberOf (check.verdict score)) 0 (not-false (eqb (check.numberOf (check.verdict score)) 0) ok) in
+      by-test (Outcome score input l) (lengthFault input l) (λ e. refuses Lengths (λ z. omega arith) (λ z. omega arith))
+      (λ long. by-test (Outcome score input l) (stateFault (sizes score .agents) (l .state)) (λ e. refuses State (λ z. omega arith) (λ z. omega arith))
+      (λ faultless. by-test (Outcome score input l) (tokenFault score input) (λ e. refuses Input (λ z. omega arith) (λ z. omega arith))
+      (λ known. by-test (Outcome score input l) (stateFault (sizes score .agents) (asBytes (after (given score (l .state) (tokensIn input)))))
+      (λ e. absurd (true-is-false e (next-faultless score accepted (l .state) faultless (tokensIn input) (input-known score input known))))
+      (λ e. answers (record { accepted = accepted; long = long; faultless = faultless; known = known }))))))
+
+  pub fit-answered : Fit score input l → answered (decode score) (given score (l .state) (tokensIn input)) ≡ exit score input l
+  fit-answered f =
+      settled score input l (f .accepted) (f .long) (f .faultless) (f .known) (given score (l .state) (tokensIn input)) refl
+      (next-faultless score (f .accepted) (l .state) (f .faultless) (tokensIn input) (input-known score input (f .known)))

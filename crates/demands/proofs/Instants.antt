@@ -1,0 +1,106 @@
+-- Answered instants, held against the definition of an instant.
+--     madeBy               the instant that the definition gives from a state on input tokens
+--     IsInstant            the score is accepted, the state has no fault, the inputs are the score's tokens, and the
+--                          definition gives the instant
+--     accepted-instant     an accepted instant call's instant is one
+--     refused-state        any other instant call leaves the state as it was
+--     instant-eleven       no instant call answers 11
+--     settled-instant      where all that is lent is right, a call that meets the contract is accepted
+--     instant-inside       the agents and tokens of an instant are the score's
+--     after-faultless      the state after an instant has no fault
+--     after-round          it stands for the state that the definition gives
+--     instant-shown        a journal shows its status, inputs and output
+use mathlib.Core.Path.{_≡_, refl, sym, ap, subst⁻¹, _∙_}
+use mathlib.Core.Bool.{false}
+use mathlib.Core.List.{List}
+use Prim.Native.Nat.{ℕ}
+use native.Mathlib.Omega.{arith}
+use Rattle.tcc.specs.Instant.{output, after}
+use Rattle.format.specs.Decode.{sizes, decode}
+use Rattle.scorefile.specs.Check as check
+use Rattle.lent.specs.Maps.{tokensIn, mapOf}
+use Rattle.lent.specs.States.{stateFault, stateOf, asBytes, SameState}
+use Rattle.lent.proofs.Round.{state-round}
+use Rattle.instant.specs.InstantCall.{Lent, Exit, exit}
+use Rattle.instant.proofs.Written.{Inside, after-lawful}
+use Rattle.journal.specs.History.{instantWords, entry}
+use Rattle.journal.proofs.Rising.{output-rising, rising-map}
+use Rattle.score.specs.Answer.{numberOf, statusOf, numberIn, statusIn}
+use Rattle.score.specs.ScoreInstant.{ofReply, ScoreInstant}
+use Rattle.score.proofs.ScoreInstant.{read}
+use Rattle.demands.specs.Calls.{Answered, answeredBy}
+use Rattle.demands.proofs.Accepted.{given, Known, input-known, lawful, given-inside, next-faultless}
+use Rattle.demands.proofs.InstantExit.{Fit, Outcome, refuses, answers, outcome, fit-answered}
+
+abbrev pub madeBy : List ℕ → List ℕ → List ℕ → Answered
+madeBy score s inputs =
+    record {
+      before = s;
+      inputs = inputs;
+      status = given score s inputs .status;
+      store = mapOf (given score s inputs .store);
+      output = mapOf (output (decode score) (given score s inputs .status) (given score s inputs .store));
+      after = asBytes (after (given score s inputs));
+    }
+
+pub record IsInstant (score : List ℕ) (p : Answered) : Type 0 where
+  pub accepted : check.numberOf (check.verdict score) ≡ 0
+  pub faultless : stateFault (sizes score .agents) (p .before) ≡ false
+  pub known : Known score (p .inputs)
+  pub is : p ≡ madeBy score (p .before) (p .inputs)
+
+module _ {score input : List ℕ} {l m : Lent} {a : ℕ} (c : ScoreInstant score input l m a) where
+  number-is : (e : Exit) → exit score input l ≡ e → numberIn a ≡ numberOf (ofReply (e .reply))
+  number-is e q = read score input l m a c .number ∙ ap (λ x. numberOf (ofReply (x .reply))) q
+
+  pub accepted-instant : numberIn a ≡ 0 → IsInstant score (answeredBy (tokensIn input) l m a)
+  accepted-instant n = go (exit score input l) refl (outcome score input l)
+    where
+      go : (e : Exit) → exit score input l ≡ e → Outcome score input l e → IsInstant score (answeredBy (tokensIn input) l m a)
+      go e q (refuses r not-zero not-eleven) = absurd (not-zero (sym (number-is e q) ∙ n))
+      go e q (answers f) =
+          let status : statusIn a ≡ given score (l .state) (tokensIn input) .status = read score input l m a c .status ∙ ap (λ x. statusOf (ofReply (x .reply))) q in
+          let lent : m ≡ e .lent = c .written ∙ ap (λ x. x .lent) q in
+          record {
+            accepted = f .accepted;
+            faultless = f .faultless;
+            known = input-known score input (f .known);
+            is = λ i. record { before = l .state; inputs = tokensIn input; status = status i; store = lent i .store; output = lent i .output; after = lent i .state };
+          }
+
+  pub refused-state : (numberIn a ≡ 0 → ⊥) → m .state ≡ l .state
+  refused-state n = go (exit score input l) refl (outcome score input l)
+    where
+      go : (e : Exit) → exit score input l ≡ e → Outcome score input l e → m .state ≡ l .state
+      go e q (refuses r not-zero not-eleven) = ap (λ x. x .state) (c .written) ∙ ap (λ x. x .lent .state) q
+      go e q (answers f) = absurd (n (number-is e q))
+
+  pub instant-eleven : numberIn a ≡ 11 → ⊥
+  instant-eleven n = go (exit score input l) refl (outcome score input l)
+    where
+      go : (e : Exit) → exit score input l ≡ e → Outcome score input l e → ⊥
+      go e q (refuses r not-zero not-eleven) = not-eleven (sym (number-is e q) ∙ n)
+      go e q (answers f) = omega (arith, number-is e q)
+
+  pub settled-instant : Fit score input l → numberIn a ≡ 0
+  settled-instant f = number-is _ (sym (fit-answered score input l f))
+
+module _ {score : List ℕ} {p : Answered} (h : IsInstant score p) where
+  pub instant-inside : Inside (decode score) (given score (p .before) (p .inputs))
+  instant-inside = given-inside score (h .accepted) (p .before) (h .faultless) (p .inputs) (h .known)
+
+  pub after-faultless : stateFault (sizes score .agents) (p .after) ≡ false
+  after-faultless = ap (λ q. stateFault (sizes score .agents) (q .after)) (h .is) ∙ next-faultless score (h .accepted) (p .before) (h .faultless) (p .inputs) (h .known)
+
+  pub after-round : SameState (stateOf (p .after)) (after (given score (p .before) (p .inputs)))
+  after-round =
+      let a = given score (p .before) (p .inputs) in
+      subst⁻¹ (λ (q : Answered). SameState (stateOf (q .after)) (after a)) (h .is) (state-round (after a) (after-lawful (decode score) a 1024 (lawful score (h .accepted) .most-agents) instant-inside))
+
+  pub instant-shown : instantWords (p .status) (p .inputs) (tokensIn (p .output)) ≡ entry (decode score) (p .inputs) (given score (p .before) (p .inputs))
+  instant-shown =
+      let sc = decode score in
+      let a = given score (p .before) (p .inputs) in
+      let law = lawful score (h .accepted) in
+      ap (λ q. instantWords (q .status) (p .inputs) (tokensIn (q .output))) (h .is)
+      ∙ ap (instantWords (a .status) (p .inputs)) (rising-map (sc .tokens) (output sc (a .status) (a .store)) (law .most-tokens) (output-rising sc (a .status) (a .store) (law .ports-ordered) (law .ports-known)))

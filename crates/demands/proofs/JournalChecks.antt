@@ -1,0 +1,109 @@
+-- Journal checks of an accepted score, held against the history from the start state.
+--     start-stands         the start state's bytes stand for it
+--     check-reply          with a scratch of its length, the reply is by the journal's form, then instant by instant
+--     history-accepted     a history's journal is accepted, with its instants
+--     accepted-history     a journal that is accepted is a history's
+use mathlib.Core.Path.{_≡_, refl, sym, ap, ap₂, subst⁻¹, _∙_}
+use mathlib.Core.Bool.{Bool, true, false, cond}
+use mathlib.Core.List.{List, [], _∷_, map, flatten, List·Memᴰ·not-nil}
+use Prim.Native.Nat.{ℕ, suc}
+use native.Mathlib.Omega.{arith}
+use lib.ListN.{length, length-map}
+use Rattle.tcc.specs.Instant.{startState, after}
+use Rattle.tcc.proofs.Sets.{Within, on-cons, on-map}
+use Rattle.format.specs.Decode.{sizes, decode}
+use Rattle.format.proofs.Decode.{decode-tokens}
+use Rattle.scorefile.specs.Check as check
+use Rattle.words.specs.Word.{words}
+use Rattle.lent.specs.Bits.{bytesOf}
+use Rattle.lent.specs.States.{stateFault, asBytes, LawfulState}
+use Rattle.instant.specs.InstantCall.{scratchBytes}
+use Rattle.journal.specs.declared.Form.{Form}
+use Rattle.journal.specs.declared.Form.the-variants.{Good, Bytes, Word}
+use Rattle.journal.specs.Form.{formOf}
+use Rattle.journal.specs.Instants.{instantsIn, inputsIn}
+use Rattle.journal.specs.History.{entry, Rising, IsHistory}
+use Rattle.journal.proofs.Forms.{good-whole, good-instants, good-words, bytes-words}
+use Rattle.journal.proofs.Histories.{history-joined, history-good, history-instants}
+use Rattle.history.specs.declared.Reply.{Reply}
+use Rattle.history.specs.declared.Reply.the-variants.{Unlawful, Differs, Accepted}
+use Rattle.history.specs.Run.{answerIn, same, checkFrom}
+use Rattle.history.specs.JournalCheckCall.{byForm, exit}
+use Rattle.history.proofs.Exact.{Stands, written-stands, check-entries, check-exact}
+use Rattle.score.specs.Answer.{numberOf, valueOf}
+use Rattle.score.specs.ScoreRun.{ofReply}
+use Rattle.score.specs.Slice.{Slice}
+use Rattle.demands.proofs.Accepted.{lawful, agents-counted}
+
+-- a check's number is 0 only where it accepts
+zero-accepted : (score state : List ℕ) (read : ℕ) (instants : List (List ℕ)) → numberOf (ofReply (checkFrom score state read instants)) ≡ 0 →
+    checkFrom score state read instants ≡ Accepted (valueOf (ofReply (checkFrom score state read instants)))
+unfolding checkFrom
+zero-accepted score state read [] = λ z. refl
+zero-accepted score state read (ws ∷ more) =
+    let a = answerIn score state (inputsIn ws) in
+    go (stateFault (sizes score .agents) (asBytes (after a))) (same ws (entry (decode score) (inputsIn ws) a))
+    (checkFrom score (asBytes (after a)) (suc read) more) (zero-accepted score (asBytes (after a)) (suc read) more)
+  where
+    go : (faulty as-run : Bool) (r : Reply) → (numberOf (ofReply r) ≡ 0 → r ≡ Accepted (valueOf (ofReply r))) →
+        numberOf (ofReply (cond faulty Unlawful (cond as-run r (Differs read)))) ≡ 0 →
+        cond faulty Unlawful (cond as-run r (Differs read)) ≡ Accepted (valueOf (ofReply (cond faulty Unlawful (cond as-run r (Differs read)))))
+    go true s r rest z = absurd (omega arith)
+    go false true r rest z = rest z
+    go false false r rest z = absurd (omega arith)
+
+module _ (score : List ℕ) (accepted : check.numberOf (check.verdict score) ≡ 0) where
+  pub start-stands : Stands score (lawful score accepted) (agents-counted score accepted) (asBytes (startState (decode score))) (startState (decode score))
+  unfolding LawfulState
+  start-stands =
+      let law = lawful score accepted in
+      written-stands score law (agents-counted score accepted) (startState (decode score))
+      (on-cons (law .roots-known 0 (law .some-roots)) (λ i m. absurd (List·Memᴰ·not-nil m)))
+
+  module _ (journal scratch : List ℕ) (long : length scratch ≡ scratchBytes) where
+    checked : Reply
+    checked = checkFrom score (asBytes (startState (decode score))) 0 (instantsIn (words journal))
+
+    check-reply : exit score journal scratch .reply ≡ byForm (formOf true (sizes score .tokens) journal) scratch checked .reply
+    unfolding exit checked
+    check-reply = rw (accepted, long)
+
+    pub history-accepted : (n : ℕ) → IsHistory (decode score) (startState (decode score)) journal n → exit score journal scratch .reply ≡ Accepted n
+    unfolding checked
+    history-accepted n h =
+        let sc = decode score in
+        let law = lawful score accepted in
+        let good : formOf true (sizes score .tokens) journal ≡ Good =
+        ap₂ (formOf true) (sym (decode-tokens score)) (h .is) ∙ history-good sc law (startState sc) (h .inputs) (h .rising) in
+        let read = ap (λ x. instantsIn (words x)) (h .is) ∙ history-instants sc law (startState sc) (h .inputs) (h .rising) in
+        check-reply
+        ∙ ap (λ f. byForm f scratch checked .reply) good
+        ∙ ap (checkFrom score (asBytes (startState sc)) 0) read
+        ∙ check-entries score law (agents-counted score accepted) (h .inputs) (h .rising) (asBytes (startState sc)) (startState sc) start-stands 0
+        ∙ ap Accepted (omega (arith, h .instants))
+
+    pub accepted-history : Slice journal → (n : ℕ) → numberOf (ofReply (exit score journal scratch .reply)) ≡ 0 → valueOf (ofReply (exit score journal scratch .reply)) ≡ n → IsHistory (decode score) (startState (decode score)) journal n
+    unfolding checked
+    accepted-history lent n z v =
+        go (formOf true (sizes score .tokens) journal) refl (ap (λ r. numberOf (ofReply r)) (sym check-reply) ∙ z) (ap (λ r. valueOf (ofReply r)) (sym check-reply) ∙ v)
+      where
+        is-history : formOf true (sizes score .tokens) journal ≡ Good → checked ≡ Accepted n → IsHistory (decode score) (startState (decode score)) journal n
+        is-history g e =
+            let sc = decode score in
+            let instants = instantsIn (words journal) in
+            let rising : Within (λ ws. Rising (sc .tokens) (inputsIn ws)) instants = λ ws m. subst⁻¹ (λ t. Rising t (inputsIn ws)) (decode-tokens score) (good-instants true (sizes score .tokens) journal g (lent .small) ws m .inputs) in
+            let x = check-exact score (lawful score accepted) (agents-counted score accepted) instants rising (asBytes (startState sc)) (startState sc) start-stands 0 n e in
+            record {
+              inputs = map inputsIn instants;
+              rising = on-map (Rising (sc .tokens)) inputsIn instants rising;
+              instants = length-map instants inputsIn ∙ omega arith;
+              is =
+                  sym (bytes-words journal (lent .small) (good-whole true (sizes score .tokens) journal g))
+                  ∙ ap bytesOf (good-words true (sizes score .tokens) journal g ∙ ap flatten (x .0) ∙ sym (history-joined sc (startState sc) (map inputsIn instants)));
+            }
+
+        go : (f : Form) → formOf true (sizes score .tokens) journal ≡ f →
+            numberOf (ofReply (byForm f scratch checked .reply)) ≡ 0 → valueOf (ofReply (byForm f scratch checked .reply)) ≡ n → IsHistory (decode score) (startState (decode score)) journal n
+        go Good g z v = is-history g (zero-accepted score (asBytes (startState (decode score))) 0 (instantsIn (words journal)) z ∙ ap Accepted v)
+        go Bytes g z v = absurd (omega arith)
+        go (Word k) g z v = absurd (omega arith)

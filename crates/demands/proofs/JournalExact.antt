@@ -1,0 +1,36 @@
+-- The journal is the history, and the journal check accepts exactly it.
+--     exactly            the check answers 0 with n exactly if the bytes are the journal of n instants
+--     runs-accepted      what a run writes from the start state is such a journal
+--     journal-exact      both: the theorem
+use mathlib.Core.Path.{refl, sym, ap, _∙_}
+use lib.ListN.{take}
+use Rattle.lent.specs.Bits.{bytesOf}
+use Rattle.journal.specs.Instants.{inputLists}
+use Rattle.score.specs.Answer.{numberOf, valueOf}
+use Rattle.score.specs.ScoreRun.{ofReply}
+use Rattle.score.proofs.ScoreJournalCheck.{read}
+use Rattle.demands.specs.Calls.{written}
+use Rattle.demands.specs.JournalExact.{Exactly, startHistory, RunsAccepted, JournalExact}
+use Rattle.demands.proofs.Runs.{taken-rises}
+use Rattle.demands.proofs.JournalRuns.{run-writes, run-count}
+use Rattle.demands.proofs.JournalChecks.{history-accepted, accepted-history}
+
+pub exactly : Exactly
+exactly score journal before after answer n accepted long c =
+    let r = read score journal before after answer c in (
+      λ e. accepted-history score accepted journal before long (c .lent) n (sym (r .number) ∙ e .0) (sym (r .value) ∙ e .1),
+      λ h.
+          let e = history-accepted score accepted journal before long n h in
+          (r .number ∙ ap (λ x. numberOf (ofReply x)) e, r .value ∙ ap (λ x. valueOf (ofReply x)) e),
+    )
+
+pub runs-accepted : RunsAccepted
+runs-accepted score inputs before after answer accepted at c = (
+  run-writes score inputs before after answer c accepted at,
+  λ scratch scratch′ checked long d.
+      exactly score (bytesOf (startHistory score inputs (written answer))) scratch scratch′ checked (written answer) accepted long d .1
+      (record { inputs = take (written answer) (inputLists inputs); rising = taken-rises c; instants = run-count score inputs before after answer c; is = refl }),
+)
+
+pub journal-exact : JournalExact
+journal-exact = (exactly, runs-accepted)

@@ -1,0 +1,47 @@
+-- Runs from the start state of an accepted score, held against the history.
+--     run-writes         what a run writes is the history of the first instants of its list, and the journal beyond is as it was
+--     run-count          the list has as many instants as the run wrote
+use mathlib.Core.Path.{_≡_, sym, ap, subst⁻¹, _∙_}
+use mathlib.Core.List.{List, _++_}
+use Prim.Native.Nat.{ℕ, _*_}
+use native.Mathlib.Omega.{arith}
+use lib.ListN.{length, take, drop}
+use lib.Seq.{length-take-le}
+use Rattle.tcc.specs.Instant.{startState}
+use Rattle.format.specs.Decode.{decode}
+use Rattle.scorefile.specs.Check.{numberOf, verdict}
+use Rattle.lent.specs.Bits.{bytesOf}
+use Rattle.lent.specs.States.{asBytes}
+use Rattle.journal.specs.Instants.{inputLists}
+use Rattle.journal.specs.History.{history}
+use Rattle.history.specs.RunCall.{Lent}
+use Rattle.history.proofs.Replies.{run-few}
+use Rattle.history.proofs.Exact.{Stands, run-history}
+use Rattle.score.specs.ScoreRun.{ScoreRun}
+use Rattle.demands.specs.Calls.{written}
+use Rattle.demands.specs.JournalExact.{startHistory}
+use Rattle.demands.proofs.Accepted.{lawful, agents-counted}
+use Rattle.demands.proofs.Runs.{Ended, refused, ran, run-ended}
+use Rattle.demands.proofs.JournalChecks.{start-stands}
+
+module _ (score inputs : List ℕ) (before after : Lent) (answer : ℕ) (c : ScoreRun score inputs before after answer) where
+  pub run-writes : numberOf (verdict score) ≡ 0 → before .state ≡ asBytes (startState (decode score)) →
+      after .journal ≡ bytesOf (startHistory score inputs (written answer)) ++ drop (4 * length (startHistory score inputs (written answer))) (before .journal)
+  unfolding history bytesOf
+  run-writes accepted at = go (run-ended c)
+    where
+      go : Ended score inputs before after answer → after .journal ≡ bytesOf (startHistory score inputs (written answer)) ++ drop (4 * length (startHistory score inputs (written answer))) (before .journal)
+      go (refused n e) = rw n (ap (λ x. x .journal) e)
+      go (ran f n e) =
+          let law = lawful score accepted in
+          let stands = subst⁻¹ (λ s. Stands score law (agents-counted score accepted) s (startState (decode score))) at (start-stands score accepted) in
+          let ws = run-history score law (agents-counted score accepted) (inputLists inputs) (f .rising) (before .state) (startState (decode score)) stands (length (before .journal)) in
+          ap (λ x. x .journal) e
+          ∙ ap (λ w. bytesOf w ++ drop (4 * length w) (before .journal)) (ws ∙ ap (startHistory score inputs) (sym n))
+
+  pub run-count : length (take (written answer) (inputLists inputs)) ≡ written answer
+  run-count = go (run-ended c)
+    where
+      go : Ended score inputs before after answer → length (take (written answer) (inputLists inputs)) ≡ written answer
+      go (refused n e) = rw n
+      go (ran f n e) = length-take-le (written answer) (inputLists inputs) (omega (arith, run-few score (before .state) (length (before .journal)) (inputLists inputs)))

@@ -1,0 +1,105 @@
+-- The exits of a run.
+--     Rises                the inputs of each instant of a list rise and are the score's tokens
+--     Fit                  what the tests of 1 to 9, 12 and 13 leave: the score, the lengths, the state and the list are right
+--     Outcome              a refusal by a number that is neither 0, 11 nor 15, which leaves all as it was; or the instants
+--                          up to the end or to the first that has no room
+--     outcome              there is no other exit
+use mathlib.Core.Path.{_≡_, refl, sym, subst, _∙_}
+use mathlib.Core.Bool.{Bool, true, false, cond, not, _||_}
+use mathlib.Core.List.{List, [], _∷_, List·Memᴰ, List·Memᴰ·head, List·Memᴰ·tail}
+use Prim.Native.Nat.{ℕ, _*_, _-_}
+use native.Mathlib.Omega.{arith}
+use borrow.Author.Tests.{eqb-true, eqb-false, not-true, not-false}
+use lib.Dec.{eqb, leb}
+use lib.ListN.{length}
+use Rattle.tcc.specs.Instant.{Answer, after}
+use Rattle.tcc.proofs.Sets.{true-is-false}
+use Rattle.format.specs.Decode.{sizes, decode}
+use Rattle.format.proofs.Decode.{decode-tokens}
+use Rattle.scorefile.specs.declared.Verdict.{Verdict}
+use Rattle.scorefile.specs.Check as check
+use Rattle.scorefile.proofs.Values.{number-few}
+use Rattle.lent.specs.States.{stateBytes, stateFault, asBytes}
+use Rattle.instant.specs.InstantCall.{scratchBytes}
+use Rattle.journal.specs.declared.Form.{Form}
+use Rattle.journal.specs.declared.Form.the-variants.{Good, Bytes, Word}
+use Rattle.journal.specs.Form.{formOf}
+use Rattle.journal.specs.Instants.{inputLists}
+use Rattle.journal.specs.History.{entry, Rising}
+use Rattle.journal.proofs.Forms.{good-inputs}
+use Rattle.journal.proofs.Rising.{rising-below}
+use Rattle.history.specs.declared.Stop.the-variants.{Not, Next, Room}
+use Rattle.history.specs.declared.Reply.{Reply}
+use Rattle.history.specs.declared.Reply.the-variants.{Score as Turned, Lengths, State, Bytes as NoWords, Word as Against}
+use Rattle.history.specs.Run.{answerIn, stopAt, Ran, unlessStopped, runFrom}
+use Rattle.history.specs.RunCall.{Lent, Exit, lengthFault, kept, ended, byForm, exit}
+use Rattle.score.specs.Answer.{numberOf}
+use Rattle.score.specs.ScoreRun.{ofReply}
+use Rattle.score.proofs.CheckCall.{reply-number}
+use Rattle.demands.proofs.Tests.{by-test}
+use Rattle.demands.proofs.Accepted.{given, next-faultless}
+
+abbrev pub Rises : List ℕ → List (List ℕ) → Type 0
+Rises score lists = (l : List ℕ) → List·Memᴰ l lists → Rising (decode score .tokens) l
+
+pub record Fit (score inputs : List ℕ) (l : Lent) : Type 0 where
+  pub accepted : check.numberOf (check.verdict score) ≡ 0
+  pub long : length (l .state) ≡ stateBytes
+  pub faultless : stateFault (sizes score .agents) (l .state) ≡ false
+  pub rising : Rises score (inputLists inputs)
+
+abbrev pub ranOn : List ℕ → List ℕ → Lent → Ran
+ranOn score inputs l = runFrom score (l .state) (length (l .journal)) (inputLists inputs)
+
+pub data Outcome (score inputs : List ℕ) (l : Lent) : Exit → Type 0 where
+  refuses : (r : Reply) → (numberOf (ofReply r) ≡ 0 → ⊥) → (numberOf (ofReply r) ≡ 11 → ⊥) → (numberOf (ofReply r) ≡ 15 → ⊥) → Outcome score inputs l (kept l r)
+  runs : Fit score inputs l → (ranOn score inputs l .stop ≡ Next → ⊥) → Outcome score inputs l (ended (l .journal) (ranOn score inputs l))
+
+-- no instant is stopped by 11
+module _ (score : List ℕ) (accepted : check.numberOf (check.verdict score) ≡ 0) where
+  pub never-next : (lists : List (List ℕ)) → Rises score lists → (s : List ℕ) → stateFault (sizes score .agents) s ≡ false → (room : ℕ) → runFrom score s room lists .stop ≡ Next → ⊥
+  unfolding runFrom answerIn stopAt
+  never-next [] rises s faultless room = λ e. let z : _≡_ {A = ℕ} 0 1 = cc in omega arith
+  never-next (inputs ∷ more) rises s faultless room =
+      rw next (go (leb (4 * length words) room) (runFrom score (asBytes (after a)) (room - 4 * length words) more) (never-next more (λ l m. rises l (List·Memᴰ·tail m)) (asBytes (after a)) next (room - 4 * length words)))
+    where
+      a : Answer
+      a = given score s inputs
+
+      words : List ℕ
+      words = entry (decode score) inputs a
+
+      next : stateFault (sizes score .agents) (asBytes (after a)) ≡ false
+      next = next-faultless score accepted s faultless inputs (rising-below (rises inputs (List·Memᴰ·head refl)))
+
+      go : (fits : Bool) (r : Ran) → (r .stop ≡ Next → ⊥) → unlessStopped (cond fits Not Room) s words r .stop ≡ Next → ⊥
+      go true r h e = h e
+      go false r h e = let z : _≡_ {A = ℕ} 0 1 = cc in omega arith
+
+first-false : (a b : Bool) → (a || b) ≡ false → a ≡ false
+first-false true b e = absurd (true-is-false refl e)
+first-false false b e = refl
+
+module _ (score inputs : List ℕ) (l : Lent) where
+  turned-down : (v : Verdict) → (check.numberOf v ≡ 0 → ⊥) → Outcome score inputs l (kept l (Turned v))
+  turned-down v n =
+      let m = reply-number (check.numberOf v) (check.valueOf v) in
+      refuses (Turned v) (λ e. n (sym m ∙ e)) (λ e. omega (arith, number-few v, m)) (λ e. omega (arith, number-few v, m))
+
+  formed : (f : Form) → formOf false (sizes score .tokens) inputs ≡ f → (f ≡ Good → Outcome score inputs l (ended (l .journal) (ranOn score inputs l))) → Outcome score inputs l (byForm f l (ended (l .journal) (ranOn score inputs l)))
+  formed Good e good = good refl
+  formed Bytes e good = refuses NoWords (λ z. omega arith) (λ z. omega arith) (λ z. omega arith)
+  formed (Word k) e good = refuses (Against k) (λ z. omega arith) (λ z. omega arith) (λ z. omega arith)
+
+  pub outcome : Outcome score inputs l (exit score inputs l)
+  unfolding exit
+  outcome =
+      let n = check.numberOf (check.verdict score) in
+      by-test (Outcome score inputs l) (not (eqb n 0)) (λ e. turned-down (check.verdict score) (eqb-false n 0 (not-true (eqb n 0) e)))
+      (λ ok. let accepted = eqb-true n 0 (not-false (eqb n 0) ok) in
+      by-test (Outcome score inputs l) (lengthFault l) (λ e. refuses Lengths (λ z. omega arith) (λ z. omega arith) (λ z. omega arith))
+      (λ right. let long = eqb-true (length (l .state)) stateBytes (not-false (eqb (length (l .state)) stateBytes) (first-false (not (eqb (length (l .state)) stateBytes)) (not (eqb (length (l .scratch)) scratchBytes)) right)) in
+      by-test (Outcome score inputs l) (stateFault (sizes score .agents) (l .state)) (λ e. refuses State (λ z. omega arith) (λ z. omega arith) (λ z. omega arith))
+      (λ faultless. formed (formOf false (sizes score .tokens) inputs) refl
+      (λ good. let rising : Rises score (inputLists inputs) = λ x m. subst (λ t. Rising t x) (sym (decode-tokens score)) (good-inputs false (sizes score .tokens) inputs good x m) in
+      runs (record { accepted = accepted; long = long; faultless = faultless; rising = rising }) (never-next score accepted (inputLists inputs) rising (l .state) faultless (length (l .journal)))))))

@@ -1,0 +1,55 @@
+-- The answers of score_run.
+--     one-exit         the contract settles the buffers and the number returned
+--     proper-fits      a reply of a run or a journal check has room in an answer, where the list or journal is a slice
+--     words-few        a slice has fewer than 2^61 whole words
+--     fits             every reply of a run over a slice has room in an answer
+--     called-fits, returned
+--                      so has what a run call replies, and returning it, packed, meets the contract
+--     read             a caller reads the reply's number and value
+use mathlib.Core.Path.{_≡_, sym, ap, subst⁻¹, _∙_}
+use mathlib.Core.List.{List}
+use Prim.Native.Nat.{ℕ, _/_, _^_, _<_}
+use native.Mathlib.Omega.{arith}
+use lib.ListN.{length}
+use Rattle.scorefile.specs.Check.{verdict}
+use Rattle.scorefile.specs.Check as check
+use Rattle.scorefile.proofs.Values.{verdict-small, number-few}
+use Rattle.history.specs.declared.Reply.{Reply as Replied}
+use Rattle.history.specs.RunCall.{Lent, Exit, exit, RunCall}
+use Rattle.history.proofs.Replies.{Proper, turned, lengths, no-state, unlawful, bytes, word, differs, full, accepted, run-proper}
+use Rattle.score.specs.Answer.{Fits, packed, Reads}
+use Rattle.score.specs.ScoreRun.{ofReply, ScoreRun, OneExit}
+use Rattle.score.specs.Slice.{Slice}
+use Rattle.score.proofs.Answer.{exact}
+use Rattle.score.proofs.CheckCall.{reply-fits}
+
+pub one-exit : OneExit
+one-exit score inputs before after₁ after₂ a b p q = (p .written ∙ sym (q .written), p .answered ∙ sym (q .answered))
+
+pub proper-fits : {score : List ℕ} {n : ℕ} {r : Replied} → n < 2 ^ 61 → Proper score n r → Fits (ofReply r)
+proper-fits {score = score} few turned = reply-fits (check.numberOf (verdict score)) (check.valueOf (verdict score)) (number-few (verdict score)) (verdict-small score)
+proper-fits few lengths = (omega arith, omega arith, λ h. omega arith, omega arith)
+proper-fits few no-state = (omega arith, omega arith, λ h. omega arith, omega arith)
+proper-fits few unlawful = (omega arith, omega arith, λ h. omega arith, omega arith)
+proper-fits few bytes = (omega arith, omega arith, λ h. omega arith, omega arith)
+proper-fits few (word k h) = (omega arith, omega arith, λ h. omega arith, omega arith)
+proper-fits few (differs k h) = (omega arith, omega arith, λ h. omega arith, omega arith)
+proper-fits few (full k h) = (omega arith, omega arith, λ h. omega arith, omega arith)
+proper-fits few (accepted k h) = omega arith
+
+pub words-few : (s : List ℕ) → Slice s → length s / 4 < 2 ^ 61
+words-few s lent = omega (arith, lent .few)
+
+pub fits : (score inputs : List ℕ) (l : Lent) → Slice inputs → Fits (ofReply (exit score inputs l .reply))
+fits score inputs l s = proper-fits (words-few inputs s) (run-proper score inputs l)
+
+-- of what a run call ensures
+module _ {score inputs : List ℕ} {l m : Lent} {r : Replied} (s : Slice inputs) (called : RunCall score inputs l m r) where
+  pub called-fits : Fits (ofReply r)
+  called-fits = subst⁻¹ (λ (x : Replied). Fits (ofReply x)) (ap (λ (e : Exit). e .reply) (called .exits)) (fits score inputs l s)
+
+  pub returned : {a : ℕ} → a ≡ packed (ofReply r) → ScoreRun score inputs l m a
+  returned e = record { lent = s; written = ap (λ (x : Exit). x .lent) (called .exits); answered = e ∙ ap (λ (x : Exit). packed (ofReply (x .reply))) (called .exits) }
+
+pub read : (score inputs : List ℕ) (l m : Lent) (a : ℕ) → ScoreRun score inputs l m a → Reads a (ofReply (exit score inputs l .reply))
+read score inputs l m a c = rw (c .answered) (exact (ofReply (exit score inputs l .reply)) (fits score inputs l (c .lent)))
