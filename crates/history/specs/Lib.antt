@@ -1,4 +1,5 @@
 pub mod Run
 pub mod Advance
 pub mod RunCall
+pub mod Held
 pub mod JournalCheckCall
