@@ -19,19 +19,20 @@ use Rattle.engine.specs.declared.Outcome.{Outcome}
 use Rattle.engine.specs.Outcome.{outcomeOf}
 use Rattle.lent.specs.States.{stateOf, asBytes, LawfulState}
 use Rattle.instant.specs.Standing.{stateIn}
-use Rattle.instant.proofs.Written.{Inside, status-few, flags-known}
+use Rattle.instant.proofs.Written.{Inside, flags-known}
 use Rattle.journal.specs.Instants.{inputsIn}
 use Rattle.journal.specs.History.{instantWords, entry}
+use Rattle.journal.proofs.Histories.{answer-status}
 use Rattle.journal.proofs.Rising.{rising-below, rising-set}
 use Rattle.history.specs.declared.Checked.{Checked}
 use Rattle.history.specs.Run.{same}
 use Rattle.history.specs.Held.{Formed, Held}
-use Rattle.history.proofs.Steps.{stands-after, after-lawful, never-unlawful}
+use Rattle.history.proofs.Steps.{stands-after, stands-lawful, never-unlawful}
 use Rattle.history.proofs.Took.{inside, words-are}
 
 pub status-three : (sc : Score) (st : State) (inputs : List ℕ) (o : Outcome) → o ≡ outcomeOf (answer sc st inputs) → o .status < 3
 unfolding outcomeOf
-status-three sc st inputs o is = let e : o .status ≡ answer sc st inputs .status = ap (λ x. x .status) is in omega (arith, status-few sc st inputs)
+status-three sc st inputs o is = let e : o .status ≡ answer sc st inputs .status = ap (λ x. x .status) is in omega (arith, answer-status sc st inputs)
 
 module _ (score : List ℕ) (p : Playable score) (st : State) (law : LawfulState (sizes score .agents) st) (ws : List ℕ) (f : Formed (sizes score .tokens) ws)
     (told : List Bool) (read : told ≡ flagsOf 256 (inputsIn ws)) where
@@ -60,7 +61,7 @@ module _ (score : List ℕ) (p : Playable score) (st : State) (law : LawfulState
     unlawful-is = u ∙ ap (λ x. any (λ i. leb (sizes score .agents) i) (setOf (x .awake))) is ∙ never-unlawful sc a few known (sizes score .agents) agents-are;
     differs-is = d ∙ ap (λ l. not (same ws l)) (ap (λ l. instantWords (o .status) l (setOf out)) (sym told-set) ∙ words-are score p st law told told-known o out is sends ∙ ap (λ l. entry sc l a) told-set);
     stands = standing;
-    lawful = subst⁻¹ (LawfulState (sizes score .agents)) standing (after-lawful sc a few known (sizes score .agents) agents-are);
+    lawful = subst⁻¹ (LawfulState (sizes score .agents)) standing (stands-lawful sc a few known (sizes score .agents) agents-are);
   })
     where
       few : length (sc .agents) ≤ 1024

@@ -17,6 +17,7 @@ use Rattle.tcc.proofs.Sets.{true-is-false}
 use Rattle.words.specs.Word.{field}
 use Rattle.store.specs.Flags.{setOf, flagsOf}
 use Rattle.store.proofs.Flags.{flags-settled}
+use Rattle.instant.proofs.Exits.{neither}
 use Rattle.journal.specs.Form.{statusOf}
 use Rattle.journal.specs.Instants.{tokensOf, inputsIn}
 use Rattle.journal.specs.History.{instantWords, Rising}
@@ -25,14 +26,6 @@ use Rattle.journal.proofs.Formed.{words-outputs}
 use Rattle.history.specs.Run.{same}
 use Rattle.history.specs.Held.{Formed}
 use Rattle.history.proofs.Exact.{same-itself, same-equal}
-
-or-left : (a b : Bool) → (a || b) ≡ false → a ≡ false
-or-left true b e = e
-or-left false b e = refl
-
-or-right : (a b : Bool) → (a || b) ≡ false → b ≡ false
-or-right true b e = absurd (true-is-false refl e)
-or-right false b e = e
 
 or-none : {a b : Bool} → a ≡ false → b ≡ false → (a || b) ≡ false
 or-none p q = ap₂ _||_ p q
@@ -59,7 +52,7 @@ module _ (a b : List Bool) where
 
   pub told-more : (t : ℕ) (found : Bool) → Told a b t found → Told a b (t + 1) (found || not (Bool·beq (getD a t false) (getD b t false)))
   told-more t found h = record {
-    none-other = λ e i l. here i l (h .none-other (or-left found _ e) i) (beq-equal (getD a t false) (getD b t false) (not-false _ (or-right found _ e))) (decLt i t);
+    none-other = λ e i l. here i l (h .none-other (neither found _ e .0) i) (beq-equal (getD a t false) (getD b t false) (not-false _ (neither found _ e .1))) (decLt i t);
     equal = λ e. or-none (h .equal e) (ap not (ap (λ x. Bool·beq (getD a t false) (getD x t false)) (sym e) ∙ beq-itself (getD a t false)));
   }
     where
@@ -111,5 +104,5 @@ module _ (ws : List ℕ) (f : Formed 256 ws) (status : ℕ) (small : status < 3)
       go true e x r = let w = same-equal ws written e in or-none (ap not (eq-eqb n status (is ∙ status-same w))) (o .1 (outputs-same w))
       go false e true r = r
       go false e false r =
-          let s : statusOf (getD ws 0 0) ≡ status = sym is ∙ eqb-true n status (not-false (eqb n status) (or-left (not (eqb n status)) other r)) in
-          absurd (true-is-false (ap (same ws) (sym (words-same s (o .0 (or-right (not (eqb n status)) other r)))) ∙ same-itself ws) e)
+          let s : statusOf (getD ws 0 0) ≡ status = sym is ∙ eqb-true n status (not-false (eqb n status) (neither (not (eqb n status)) other r .0)) in
+          absurd (true-is-false (ap (same ws) (sym (words-same s (o .0 (neither (not (eqb n status)) other r .1)))) ∙ same-itself ws) e)

@@ -4,6 +4,8 @@
 --     half-none        before the first instant
 --     half-more        one instant more
 --     half-stopped     an instant that is not written ends the run
+--     room-is, put-back
+--                      the part of the journal that is lent to an instant
 --     half-ended       so does the end of the list
 use mathlib.Core.Path.{_≡_, refl, sym, ap, ap₂, subst, _∙_}
 use mathlib.Core.Bool.{Bool, true, false, cond}
@@ -12,8 +14,9 @@ use Prim.Native.Nat.{ℕ, zero, suc, _+_, _*_, _-_, _<_, _≤_}
 use native.Mathlib.Omega.{arith}
 use borrow.Author.Tests.{ne-eqb}
 use lib.Dec.{eqb}
-use lib.ListN.{length, take, drop, length-append, take-append-drop}
-use lib.Seq.{take-at, drop-append-add, drop-drop}
+use lib.ListN.{length, take, drop, length-append, length-drop, take-append-drop}
+use lib.Seq.{take-at, drop-append-add, drop-drop, drop-length, take-all}
+use borrow.Rule.Slice.PartMut.{putMid, post-is}
 use Rattle.tcc.specs.Instant.{State, Answer, answer, after}
 use Rattle.format.specs.Decode.{sizes, decode}
 use Rattle.lent.specs.Bits.{bytesOf}
@@ -71,6 +74,15 @@ put-behind ws e j₀ journal filled f j =
 
     more : 4 * length ws + 4 * length e ≡ 4 * length (ws ++ e)
     more = omega (arith, length-append ws e)
+
+-- the part of the journal that is lent to an instant, and what comes back
+pub room-is : (journal : List ℕ) (filled : ℕ) → take (length journal - filled) (drop filled journal) ≡ drop filled journal
+room-is journal filled = take-all (length journal - filled) (drop filled journal) (omega (arith, length-drop filled journal))
+
+pub put-back : (journal part : List ℕ) (filled : ℕ) → filled ≤ length journal → putMid filled (length journal - filled) journal part ≡ take filled journal ++ part
+put-back journal part filled h =
+    ap (λ l. take filled journal ++ (part ++ l)) (post-is filled (length journal) journal h ∙ drop-length journal)
+    ∙ ap (λ l. take filled journal ++ l) (append-nil part)
 
 -- a count that is not none
 counted : (n : ℕ) {A : Type 0} (x y : A) → y ≡ cond (eqb (n + 1) 0) x y

@@ -1,7 +1,7 @@
 -- One instant of a run, from flags to the definition.
 --     same-running       bytes that stand for running agents stand for their flags
 --     stands-after       where the score stands after an answer is what the bytes of its next state stand for
---     after-lawful       and it is a lawful state
+--     stands-lawful      and it is a lawful state
 --     entry-flags        the words of the instant, by the flags of its inputs and outputs
 --     never-unlawful     number 11 is not met
 use mathlib.Core.Path.{_≡_, refl, sym, ap, ap₂, subst, subst⁻¹, _∙_}
@@ -41,8 +41,8 @@ same-running s l = go (eqb (wordAt s 0) abortedWord)
     go false h = ap running (sym (agents-set s) ∙ ap setOf (flagsOf-same 1024 h))
 
 module _ (sc : Score) (a : Answer) (few : length (sc .agents) ≤ 1024) (inside : Inside sc a) where
-  pub after-lawful : (n : ℕ) → length (sc .agents) ≡ n → LawfulState n (stateOf (asBytes (after a)))
-  after-lawful n e = faultless-lawful n (asBytes (after a)) (next-lawful sc a n e (omega arith) inside)
+  pub stands-lawful : (n : ℕ) → length (sc .agents) ≡ n → LawfulState n (stateOf (asBytes (after a)))
+  stands-lawful n e = faultless-lawful n (asBytes (after a)) (next-lawful sc a n e (omega arith) inside)
 
   awake-within : LawfulState 1024 (running (a .awake))
   unfolding LawfulState

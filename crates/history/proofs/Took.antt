@@ -3,7 +3,7 @@
 --     told-below       the inputs are below T
 --     outputs-known    no output is flagged from T on
 --     took             what the parts return is the instant
---     goes-not, not-goes, not-stopped
+--     goes-not, not-goes, not-stopped, took-fits
 --                      whether it is written
 use mathlib.Core.Path.{_≡_, refl, sym, ap, ap₂, subst⁻¹, _∙_}
 use mathlib.Core.Bool.{Bool, true, false, cond, not}
@@ -31,14 +31,15 @@ use Rattle.lent.proofs.Round.{state-round}
 use Rattle.instant.specs.declared.Standing.{Standing}
 use Rattle.instant.specs.Standing.{stateIn}
 use Rattle.instant.proofs.Ports.{output-below}
-use Rattle.instant.proofs.Written.{Inside, answer-inside, status-few, flags-known}
+use Rattle.instant.proofs.Written.{Inside, answer-inside, flags-known}
 use Rattle.journal.specs.History.{instantWords, entry}
+use Rattle.journal.proofs.Histories.{answer-status}
 use Rattle.history.specs.declared.Stop.{Stop}
 use Rattle.history.specs.declared.Stop.the-variants.{Not, Next, Room}
 use Rattle.history.specs.declared.Taken.{Taken}
 use Rattle.history.specs.Run.{stopBy, goesOn, stopAt}
 use Rattle.history.specs.Advance.{Advanced}
-use Rattle.history.proofs.Steps.{stands-after, after-lawful, entry-flags, never-unlawful}
+use Rattle.history.proofs.Steps.{stands-after, stands-lawful, entry-flags, never-unlawful}
 
 pub told-below : (n : ℕ) (told : List Bool) → ((t : ℕ) → n ≤ t → getD told t false ≡ false) → (t : ℕ) → List·Memᴰ t (setOf told) → t < n
 told-below n told known t m = go (decLt t n)
@@ -68,7 +69,7 @@ module _ (score : List ℕ) (p : Playable score) (st : State) (law : LawfulState
 
   pub status-small : (o : Outcome) → o ≡ outcomeOf a → o .status < 4
   unfolding outcomeOf
-  status-small o is = let e : o .status ≡ a .status = ap (λ x. x .status) is in omega (arith, status-few sc st (setOf told))
+  status-small o is = let e : o .status ≡ a .status = ap (λ x. x .status) is in omega (arith, answer-status sc st (setOf told))
 
   module _ (o : Outcome) (out : List Bool) (is : o ≡ outcomeOf a) (sends : out ≡ flagsOf 256 (output sc (o .status) (setOf (o .store)))) where
     pub outputs-known : (t : ℕ) → sizes score .tokens ≤ t → getD out t false ≡ false
@@ -99,7 +100,7 @@ module _ (score : List ℕ) (p : Playable score) (st : State) (law : LawfulState
         written = λ q. w q ∙ ap (λ ws. bytesOf ws ++ drop (4 * length ws) before) words-are;
         kept = k;
         stands = standing;
-        lawful = subst⁻¹ (LawfulState (sizes score .agents)) standing (after-lawful sc a few inside (sizes score .agents) agents-are);
+        lawful = subst⁻¹ (LawfulState (sizes score .agents)) standing (stands-lawful sc a few inside (sizes score .agents) agents-are);
       }
       where
         bytes : t .bytes ≡ 4 * length (entry sc (setOf told) a)
@@ -124,3 +125,8 @@ not-stopped false needed room e = go (leb needed room) refl e
     go : (b : Bool) → leb needed room ≡ b → goesOn (cond b Not Room) ≡ true → needed ≤ room
     go true p q = leb-true needed room p
     go false p q = absurd (true-is-false q refl)
+
+pub took-fits : {score ws room room′ : List ℕ} {a : Answer} {t : Taken} → Advanced score a ws room room′ t → goesOn (t .stop) ≡ true → t .bytes ≤ length room
+unfolding stopAt
+took-fits {score} {ws} {room} {room′} {a} {t} took e =
+    omega (arith, took .bytes-are, not-stopped (stateFault (sizes score .agents) (asBytes (after a))) (4 * length ws) (length room) (ap goesOn (sym (took .stop-is)) ∙ e))

@@ -1,5 +1,5 @@
 pub mod Run
-pub mod Advance
 pub mod RunCall
+pub mod Advance
 pub mod Held
 pub mod JournalCheckCall

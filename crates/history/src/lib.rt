@@ -17,7 +17,7 @@ ghost use Rattle.journal.specs.Form.{formOf};
 ghost use Rattle.journal.specs.Instants.{instantsIn, inputsIn, inputLists};
 ghost use Rattle.journal.specs.History.{instantWords, entry, Rising};
 ghost use Rattle.history.specs.Run.{stopBy, goesOn, runFrom, same, checkFrom};
-ghost use Rattle.history.specs.Advance.{Advanced, RanTo};
+ghost use Rattle.history.specs.Advance.{Advanced, RanTo, LeftBy};
 ghost use Rattle.history.specs.RunCall.{lent, ending, RunCall};
 ghost use Rattle.history.specs.Held.{Formed, Held};
 ghost use Rattle.history.specs.JournalCheckCall.{JournalCheckCall};
@@ -113,18 +113,31 @@ pub fn run(
         Form::Word(k) => Reply::Word(k),
         Form::Good => {
             lent::clear(scratch);
-            let ended = run_list(
-                score,
-                head,
-                instant::standing_in(state),
-                inputs,
-                journal,
-            );
-            keep(state, head.agents, ended);
-            let stop = ended.stop;
-            reply_of(stop, ended.instants)
+            run_from(score, head, state, inputs, journal)
         }
     }
+}
+
+// Runs a list of good form from a lawful state.
+fn run_from(
+    score: &[u8],
+    head: Sizes,
+    state: &mut [u8],
+    inputs: &[u8],
+    journal: &mut [u8],
+) -> Reply
+    requires { ⌜ head ≡ sizes (now score) ⌝ }
+    requires { ⌜ Playable (now score) ⌝ }
+    requires { ⌜ length (now state) ≡ 132 ⌝ }
+    requires { ⌜ stateFault (sizes (now score) .agents) (now state) ≡ false ⌝ }
+    requires { ⌜ formOf false (sizes (now score) .tokens) (now inputs) ≡ Good ⌝ }
+    ensures { λ r. ⌜ LeftBy (runFrom (now (score .entry)) (now (state .entry)) (length (now (journal .entry))) (inputLists (now (inputs .entry)))) (now (journal .entry)) (now (state .exit)) (now (journal .exit)) r ⌝ }
+{
+    let standing = instant::standing_in(state);
+    let ended = run_list(score, head, standing, inputs, journal);
+    keep(state, head.agents, ended);
+    let stop = ended.stop;
+    reply_of(stop, ended.instants)
 }
 
 // Whether a buffer has another length than it should.

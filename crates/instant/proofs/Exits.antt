@@ -49,11 +49,11 @@ pub record Lengths-are (given : List ℕ) (l : Lent) : Type 0 where
   pub output-long : length (l .output) ≡ mapBytes
   pub scratch-long : length (l .scratch) ≡ scratchBytes
 
-neither : (a b : Bool) → (a || b) ≡ false → (a ≡ false) × (b ≡ false)
+pub neither : (a b : Bool) → (a || b) ≡ false → (a ≡ false) × (b ≡ false)
 neither true b e = (e, absurd (true≢false e))
 neither false b e = (refl, e)
 
-right : (m n : ℕ) → not (eqb m n) ≡ false → m ≡ n
+pub right : (m n : ℕ) → not (eqb m n) ≡ false → m ≡ n
 right m n e = eqb-true m n (not-false (eqb m n) e)
 
 pub right-lengths : (given : List ℕ) (l : Lent) → lengthFault given l ≡ false → Lengths-are given l

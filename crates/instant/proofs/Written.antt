@@ -2,7 +2,6 @@
 --     flags-back       a set below n, through flags and back, has the same members
 --     Within           an answer's agents are the score's, and its tokens too
 --     answer-within    from a lawful state, on inputs below T, it is so
---     status-few       the statuses
 --     after-lawful     so the next state is lawful
 --     next-lawful      and does not meet number 9
 --     flags-known      no flag of a set is set from past its members on
@@ -18,7 +17,7 @@ use lib.ListN.{length, getD}
 use Rattle.tcc.specs.Sets.{Same, any, has, below}
 use Rattle.tcc.specs.Score.{Score, agentAt}
 use Rattle.tcc.specs.Lawful.{Lawful, AgentsBelow}
-use Rattle.tcc.specs.Instant.{Fact, liveIn, heldIn, isAbort, reducedOf, leftAwake, Answer, abortedAnswer, quietAnswer, answerOf, reached, instant, output, State, running, aborted, answer, after}
+use Rattle.tcc.specs.Instant.{Fact, liveIn, heldIn, isAbort, Answer, abortedAnswer, quietAnswer, answerOf, reached, instant, output, State, running, aborted, answer, after}
 use Rattle.tcc.proofs.Sets.{keep-agrees, has-same}
 use Rattle.tcc.proofs.FixedPoint.{stays-known}
 use Rattle.store.specs.Flags.{setOf, flagsOf}
@@ -54,16 +53,6 @@ answer-inside sc aborted inputs l w k = record { agents = λ i m. elim m [ ]; to
 answer-inside sc (running agents) inputs l w k =
     let s = stays-known sc agents inputs l w k in
     record { agents = s .0; tokens = s .1; aborted-whole = two-aborts sc (reached sc agents inputs) }
-
-pub status-few : (sc : Score) (st : State) (inputs : List ℕ) → answer sc st inputs .status ≤ 2
-unfolding answer instant
-status-few sc aborted inputs = omega arith
-status-few sc (running agents) inputs = go (any (λ i. isAbort (agentAt sc i)) (liveIn (reached sc agents inputs))) (has 0 (heldIn (reached sc agents inputs)))
-  where
-    go : (b c : Bool) → cond b abortedAnswer (record { status = cond c 1 0; store = heldIn (reached sc agents inputs); reduced = reducedOf sc (heldIn (reached sc agents inputs)) (liveIn (reached sc agents inputs)); awake = leftAwake sc (heldIn (reached sc agents inputs)) (liveIn (reached sc agents inputs)) }) .status ≤ 2
-    go true c = omega arith
-    go false true = omega arith
-    go false false = omega arith
 
 pub after-lawful : (sc : Score) (a : Answer) (n : ℕ) → length (sc .agents) ≤ n → Inside sc a → LawfulState n (after a)
 unfolding LawfulState
