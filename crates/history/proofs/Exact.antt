@@ -1,4 +1,5 @@
 -- Runs and journal checks from a state, held against the history that the definition gives.
+--     same-itself, same-equal     words are the same as themselves and as no others
 --     Stands             bytes stand for a lawful state, copies aside
 --     written-stands     so do the bytes written for one
 --     instant-entry      an instant from such bytes has the words of the instant from the state
@@ -35,11 +36,11 @@ use Rattle.history.specs.declared.Reply.{Reply}
 use Rattle.history.specs.declared.Reply.the-variants.{Differs, Accepted}
 use Rattle.history.specs.Run.{answerIn, stopAt, Ran, unlessStopped, runFrom, same, checkFrom}
 
-same-itself : (ws : List ℕ) → same ws ws ≡ true
+pub same-itself : (ws : List ℕ) → same ws ws ≡ true
 same-itself [] = refl
 same-itself (w ∷ ws) = both-and (eq-eqb w w refl) (same-itself ws)
 
-same-equal : (vs ws : List ℕ) → same vs ws ≡ true → vs ≡ ws
+pub same-equal : (vs ws : List ℕ) → same vs ws ≡ true → vs ≡ ws
 same-equal [] [] e = refl
 same-equal [] (w ∷ ws) e = absurd (true-is-false e refl)
 same-equal (v ∷ vs) [] e = absurd (true-is-false e refl)

@@ -1,4 +1,5 @@
 -- One instant of a run, from flags to the definition.
+--     same-running       bytes that stand for running agents stand for their flags
 --     stands-after       where the score stands after an answer is what the bytes of its next state stand for
 --     stands-lawful      and it is a lawful state
 --     entry-flags        the words of the instant, by the flags of its inputs and outputs
@@ -31,7 +32,7 @@ unfolding SameState
 same-aborted (running l) h = absurd h
 same-aborted aborted h = refl
 
-same-running : (s l : List ℕ) → SameState (stateOf s) (running l) → stateOf s ≡ running (setOf (flagsOf 1024 l))
+pub same-running : (s l : List ℕ) → SameState (stateOf s) (running l) → stateOf s ≡ running (setOf (flagsOf 1024 l))
 unfolding SameState stateOf
 same-running s l = go (eqb (wordAt s 0) abortedWord)
   where

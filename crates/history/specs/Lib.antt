@@ -1,4 +1,5 @@
 pub mod Run
 pub mod RunCall
 pub mod Advance
+pub mod Held
 pub mod JournalCheckCall

@@ -1,0 +1,36 @@
+-- `start`: the root of procedure 0 is the one agent awake.
+use mathlib.Core.Path.{ap}
+use mathlib.Core.Bool.{true, false}
+use mathlib.Core.List.{List}
+use Prim.Native.Nat.{ℕ, _<_}
+use native.Mathlib.Omega.{arith}
+use lib.ListN.{set, replicate}
+use Rattle.format.specs.Decode.{sizes}
+use Rattle.format.proofs.Decode.{decode-roots, sizes-few}
+use Rattle.store.specs.Playable.{Playable}
+use Rattle.history.proofs.Starts.{root-known, started}
+use Rattle.history.proofs.start.Statement.{statement}
+use Rattle.history.proofs.start.Tie as tie
+
+procedures-some : (score : List ℕ) → Playable score → 0 < sizes score .procedures
+procedures-some score p = omega (arith, decode-roots score (p .whole), p .lawful .some-roots)
+
+root-of-requires : tie.Need-root-of-requires
+root-of-requires c κs =
+    let b = c .before in
+    let e = ap (λ h. h .agents) (b .pre .0) in
+    let some = procedures-some (b .args .score .now) (b .pre .1) in
+    (omega (arith, e, some, b .pre .1 .whole), (e, some))
+
+array-write-awake : tie.Need-array-write-awake
+array-write-awake c =
+    let b = c .before .before in
+    omega (arith, c .root-of .ensures, root-known (b .args .score .now) (b .pre .1), sizes-few (b .args .score .now) .1)
+
+returns : tie.Need-returns
+returns c =
+    let b = c .before .before in
+    started (b .args .score .now) (b .pre .1) (ap (λ r. set (replicate 1024 false) r true) (c .root-of .ensures))
+
+pub start-spec : {M : Type 1} → statement M
+start-spec = tie.close (tie.spec root-of-requires array-write-awake returns)
