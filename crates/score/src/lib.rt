@@ -6,6 +6,7 @@ ghost use Rattle.score.specs.Answer.{refused, settled, packed, Fits};
 ghost use Rattle.score.specs.CheckCall.{ofVerdict, CheckCall};
 ghost use Rattle.score.specs.ScoreInstant.{ofReply, ScoreInstant};
 ghost use Rattle.score.specs.ScoreRun.{ofRunReply, ScoreRun};
+ghost use Rattle.score.specs.ScoreJournalCheck.{ScoreJournalCheck};
 use instant::Reply;
 use scorefile::Verdict;
 
@@ -44,6 +45,14 @@ pub extern "C" fn score_run(
     ensures { λ r. ⌜ ScoreRun (now (score .entry)) (now (inputs .entry)) (lentToRun (now (state .entry)) (now (journal .entry)) (now (scratch .entry))) (lentToRun (now (state .exit)) (now (journal .exit)) (now (scratch .exit))) r ⌝ }
 {
     of_run_reply(history::run(score, state, inputs, journal, scratch))
+}
+
+// Checks a journal from the start state.
+#[no_mangle]
+pub extern "C" fn score_journal_check(score: &[u8], journal: &[u8], scratch: &mut [u8]) -> u64
+    ensures { λ r. ⌜ ScoreJournalCheck (now (score .entry)) (now (journal .entry)) (now (scratch .entry)) (now (scratch .exit)) r ⌝ }
+{
+    of_run_reply(history::journal_check(score, journal, scratch))
 }
 
 // A verdict as an answer.
