@@ -87,6 +87,6 @@ abbrev pub NotEmpty : Type 0
 NotEmpty =
     ((score first last : List ℕ) (calls : List Call) → InTurn score first calls last → (answered : List Answered) × Answers score calls answered)
     × ((score first last : List ℕ) (calls : List Call) (earlier later : List Answered) (p : Answered) (copies awake s : List ℕ) →
-      Running first → InTurn score first calls last → Answers score calls (earlier ++ p ∷ later) →
-      Same copies (agentsIn first) → Chain (decode score) copies (map (λ q. q .inputs) earlier) awake →
-      (steps : List Item) × (e : End) × Order (decode score) (start awake (p .inputs)) s steps e × Finished (decode score) e)
+    Running first → InTurn score first calls last → Answers score calls (earlier ++ p ∷ later) →
+    Same copies (agentsIn first) → Chain (decode score) copies (map (λ q. q .inputs) earlier) awake →
+    (steps : List Item) × (e : End) × Order (decode score) (start awake (p .inputs)) s steps e × Finished (decode score) e)

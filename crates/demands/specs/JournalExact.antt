@@ -39,8 +39,8 @@ RunsAccepted =
     before .state ≡ asBytes (startState (decode score)) → ScoreRun score inputs before after answer →
     (after .journal ≡ bytesOf (startHistory score inputs (written answer)) ++ drop (4 * length (startHistory score inputs (written answer))) (before .journal))
     × ((scratch scratch′ : List ℕ) (checked : ℕ) → length scratch ≡ scratchBytes →
-      ScoreJournalCheck score (bytesOf (startHistory score inputs (written answer))) scratch scratch′ checked →
-      (numberIn checked ≡ 0) × (valueIn checked ≡ written answer))
+    ScoreJournalCheck score (bytesOf (startHistory score inputs (written answer))) scratch scratch′ checked →
+    (numberIn checked ≡ 0) × (valueIn checked ≡ written answer))
 
 abbrev pub JournalExact : Type 0
 JournalExact = Exactly × RunsAccepted

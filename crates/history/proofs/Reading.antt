@@ -63,19 +63,19 @@ reading-next tokens bytes at r more = subst (Next tokens bytes at) (part-on byte
 
     next : Next tokens bytes at (partFrom rest)
     next = record {
-        some = omega (arith, n, span-positive rest left);
-        fits = omega (arith, n, span-fits rest, length-drop at bytes, r .within);
-        instants = step;
-        lists = lists;
-        told = r .rising _ (subst (List·Memᴰ _) (sym lists) (List·Memᴰ·head refl));
-        follows = record {
-          aligned = omega (arith, n, r .aligned);
-          within = omega (arith, n, span-fits rest, length-drop at bytes, r .within);
-          four = r .four;
-          starts = subst (λ k. (words k ≡ []) ⊎ (isInstant (wordAt k 0) ≡ true)) (sym beyond) (part-starts rest);
-          rising = λ l m. r .rising l (subst (List·Memᴰ l) (sym lists) (List·Memᴰ·tail m));
-        };
-      }
+      some = omega (arith, n, span-positive rest left);
+      fits = omega (arith, n, span-fits rest, length-drop at bytes, r .within);
+      instants = step;
+      lists = lists;
+      told = r .rising _ (subst (List·Memᴰ _) (sym lists) (List·Memᴰ·head refl));
+      follows = record {
+        aligned = omega (arith, n, r .aligned);
+        within = omega (arith, n, span-fits rest, length-drop at bytes, r .within);
+        four = r .four;
+        starts = subst (λ k. (words k ≡ []) ⊎ (isInstant (wordAt k 0) ≡ true)) (sym beyond) (part-starts rest);
+        rising = λ l m. r .rising l (subst (List·Memᴰ l) (sym lists) (List·Memᴰ·tail m));
+      };
+    }
 
 pub reading-end : (tokens : ℕ) (bytes : List ℕ) (at : ℕ) → length bytes ≤ at → inputLists (drop at bytes) ≡ []
 unfolding inputLists

@@ -111,12 +111,12 @@ module _ (score inputs s₀ j₀ journal : List ℕ) (stands : Standing) (n at f
       runFrom score (half .state) (length j₀ - filled) (inputLists (drop at inputs)) ≡ stopped (half .state) (e .stop) →
       RanTo score s₀ j₀ journal′ (runFrom score s₀ (length j₀) (inputLists inputs)) e
   ended-as journal′ e j i st law r = record {
-      stop-is = ap (λ x. x .stop) w;
-      instants-are = ap (λ x. x .instants) w ∙ sym i;
-      journal-is = j ∙ half .journal-is ∙ sym (ap (λ x. bytesOf (x .words) ++ drop (4 * length (x .words)) j₀) w);
-      state-is = ap (λ x. x .state) w ∙ half .state-is ∙ sym (ap₂ (λ k x. cond (eqb k 0) s₀ (asBytes (stateIn x))) i st);
-      lawful = subst (λ x. LawfulState (sizes score .agents) (stateIn x)) (sym st) law;
-    }
+    stop-is = ap (λ x. x .stop) w;
+    instants-are = ap (λ x. x .instants) w ∙ sym i;
+    journal-is = j ∙ half .journal-is ∙ sym (ap (λ x. bytesOf (x .words) ++ drop (4 * length (x .words)) j₀) w);
+    state-is = ap (λ x. x .state) w ∙ half .state-is ∙ sym (ap₂ (λ k x. cond (eqb k 0) s₀ (asBytes (stateIn x))) i st);
+    lawful = subst (λ x. LawfulState (sizes score .agents) (stateIn x)) (sym st) law;
+  }
     where
       w : runFrom score s₀ (length j₀) (inputLists inputs) ≡ record { words = half .words; state = half .state; instants = n; stop = e .stop }
       w = half .whole ∙ ap (behind (half .words) n) r ∙ behind-stopped (half .words) (half .state) n (e .stop)
@@ -142,7 +142,7 @@ module _ (score inputs s₀ j₀ journal : List ℕ) (stands : Standing) (n at f
     unfolding runFrom
     from-here = ap (runFrom score (half .state) (length j₀ - filled)) lists
         ∙ ap (λ x. unlessStopped (stopAt score x (4 * length (entry (decode score) told x)) (length j₀ - filled)) (half .state) (entry (decode score) told x)
-          (runFrom score (asBytes (after x)) (length j₀ - filled - 4 * length (entry (decode score) told x)) (inputLists more-bytes))) answer-is
+        (runFrom score (asBytes (after x)) (length j₀ - filled - 4 * length (entry (decode score) told x)) (inputLists more-bytes))) answer-is
 
     module _ (room : List ℕ) (long : length room ≡ length j₀ - filled) (room′ : List ℕ) (t : Taken) (took : Advanced score a words-of room room′ t) where
       stop-is : stopAt score a (4 * length words-of) (length j₀ - filled) ≡ t .stop
@@ -151,17 +151,17 @@ module _ (score inputs s₀ j₀ journal : List ℕ) (stands : Standing) (n at f
       pub half-more : room ≡ drop filled journal → t .stop ≡ Not → (more : ℕ) → drop more inputs ≡ more-bytes → (s′ : SameState (stateOf (asBytes (after a))) (after a)) →
           Half score inputs s₀ j₀ (take filled journal ++ room′) (t .standing) (n + 1) more (filled + t .bytes)
       half-more r q more d s′ = record {
-          words = half .words ++ words-of;
-          state = asBytes (after a);
-          whole = half .whole
-              ∙ ap (behind (half .words) n) (from-here ∙ unless-not (half .state) words-of _ (stop-is ∙ q))
-              ∙ behind-more (half .words) words-of n _
-              ∙ ap₂ (λ m l. behind (half .words ++ words-of) (n + 1) (runFrom score (asBytes (after a)) m (inputLists l))) bytes (sym d);
-          filled-is = ap₂ _+_ (half .filled-is) (took .bytes-are) ∙ length-four;
-          journal-is = ap (λ l. take filled journal ++ l) (took .written q ∙ ap (λ l. bytesOf words-of ++ drop (4 * length words-of) l) r) ∙ put-behind (half .words) words-of j₀ journal filled (half .filled-is) (half .journal-is);
-          stands-for = sym (took .stands);
-          state-is = counted n s₀ (asBytes (after a)) ∙ ap (λ x. cond (eqb (n + 1) 0) s₀ x) (sym (ap asBytes (took .stands) ∙ asBytes-same _ _ s′));
-        }
+        words = half .words ++ words-of;
+        state = asBytes (after a);
+        whole = half .whole
+            ∙ ap (behind (half .words) n) (from-here ∙ unless-not (half .state) words-of _ (stop-is ∙ q))
+            ∙ behind-more (half .words) words-of n _
+            ∙ ap₂ (λ m l. behind (half .words ++ words-of) (n + 1) (runFrom score (asBytes (after a)) m (inputLists l))) bytes (sym d);
+        filled-is = ap₂ _+_ (half .filled-is) (took .bytes-are) ∙ length-four;
+        journal-is = ap (λ l. take filled journal ++ l) (took .written q ∙ ap (λ l. bytesOf words-of ++ drop (4 * length words-of) l) r) ∙ put-behind (half .words) words-of j₀ journal filled (half .filled-is) (half .journal-is);
+        stands-for = sym (took .stands);
+        state-is = counted n s₀ (asBytes (after a)) ∙ ap (λ x. cond (eqb (n + 1) 0) s₀ x) (sym (ap asBytes (took .stands) ∙ asBytes-same _ _ s′));
+      }
         where
           bytes : length j₀ - filled - 4 * length words-of ≡ length j₀ - (filled + t .bytes)
           bytes = omega (arith, took .bytes-are)

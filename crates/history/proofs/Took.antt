@@ -76,7 +76,7 @@ module _ (score : List ℕ) (p : Playable score) (st : State) (law : LawfulState
     outputs-known t le =
         ap (λ l. getD l t false) sends
         ∙ flags-known 256 (sc .tokens) (output sc (o .status) (setOf (o .store)))
-          (λ u m. omega (arith, output-below sc (o .status) (setOf (o .store)) (p .lawful .ports-ordered) u m, p .lawful .ports-known)) t (omega (arith, decode-tokens score))
+        (λ u m. omega (arith, output-below sc (o .status) (setOf (o .store)) (p .lawful .ports-ordered) u m, p .lawful .ports-known)) t (omega (arith, decode-tokens score))
 
     pub words-are : instantWords (o .status) (setOf told) (setOf out) ≡ entry sc (setOf told) a
     unfolding outcomeOf
@@ -95,13 +95,13 @@ module _ (score : List ℕ) (p : Playable score) (st : State) (law : LawfulState
         Advanced score a (entry sc (setOf told) a) before after′ t
     unfolding stopAt outcomeOf
     took t before after′ unlawful u b s stands w k = record {
-        stop-is = s ∙ ap₂ (λ x y. stopBy x y (length before)) (u ∙ ap (λ x. any (λ i. leb (sizes score .agents) i) (setOf (x .awake))) is ∙ never-unlawful sc a few inside (sizes score .agents) agents-are) bytes;
-        bytes-are = bytes;
-        written = λ q. w q ∙ ap (λ ws. bytesOf ws ++ drop (4 * length ws) before) words-are;
-        kept = k;
-        stands = standing;
-        lawful = subst⁻¹ (LawfulState (sizes score .agents)) standing (stands-lawful sc a few inside (sizes score .agents) agents-are);
-      }
+      stop-is = s ∙ ap₂ (λ x y. stopBy x y (length before)) (u ∙ ap (λ x. any (λ i. leb (sizes score .agents) i) (setOf (x .awake))) is ∙ never-unlawful sc a few inside (sizes score .agents) agents-are) bytes;
+      bytes-are = bytes;
+      written = λ q. w q ∙ ap (λ ws. bytesOf ws ++ drop (4 * length ws) before) words-are;
+      kept = k;
+      stands = standing;
+      lawful = subst⁻¹ (LawfulState (sizes score .agents)) standing (stands-lawful sc a few inside (sizes score .agents) agents-are);
+    }
       where
         bytes : t .bytes ≡ 4 * length (entry sc (setOf told) a)
         bytes = b ∙ ap (λ ws. 4 * length ws) words-are

@@ -119,13 +119,7 @@ pub fn run(
 }
 
 // Runs a list of good form from a lawful state.
-fn run_from(
-    score: &[u8],
-    head: Sizes,
-    state: &mut [u8],
-    inputs: &[u8],
-    journal: &mut [u8],
-) -> Reply
+fn run_from(score: &[u8], head: Sizes, state: &mut [u8], inputs: &[u8], journal: &mut [u8]) -> Reply
     requires { ⌜ head ≡ sizes (now score) ⌝ }
     requires { ⌜ Playable (now score) ⌝ }
     requires { ⌜ length (now state) ≡ 132 ⌝ }
@@ -215,13 +209,7 @@ fn run_list(
 }
 
 // Plays one instant and writes it at the front of a journal buffer, if it can be written.
-fn advance(
-    score: &[u8],
-    head: Sizes,
-    standing: Standing,
-    told: Tokens,
-    journal: &mut [u8],
-) -> Taken
+fn advance(score: &[u8], head: Sizes, standing: Standing, told: Tokens, journal: &mut [u8]) -> Taken
     requires { ⌜ head ≡ sizes (now score) ⌝ }
     requires { ⌜ Playable (now score) ⌝ }
     requires { ⌜ LawfulState (sizes (now score) .agents) (stateIn standing) ⌝ }
@@ -233,11 +221,7 @@ fn advance(
     let held = outcome.store;
     let out = instant::sent(score, held);
     let bytes = journal::size(head.tokens, &told, &out);
-    let stop = stop_by(
-        lent::any_from(&awake, head.agents),
-        bytes,
-        journal.len(),
-    );
+    let stop = stop_by(lent::any_from(&awake, head.agents), bytes, journal.len());
     let after = instant::standing_after(outcome);
     if goes_on(stop) {
         journal::write(journal, outcome.status, head.tokens, &told, &out);

@@ -51,7 +51,7 @@ number-of-requires : tie.Need-number-of-requires
 number-of-requires c κs = search needs
 
 returns : tie.Need-returns
-returns c = 
+returns c =
     let b = c .before .before .before .before .before .before .before .before in
     record { exits = turned (b .args .score .now) (b .args .inputs .now) (buffers b) (c .before .before .check .result) (c .before .before .check .ensures) (λ z. c .if1 .taken (c .before .number-of .ensures ∙ z)) }
 
@@ -59,7 +59,7 @@ wrong-length-requires : tie.Need-wrong-length-requires
 wrong-length-requires c κs = search needs
 
 returns-2 : tie.Need-returns-2
-returns-2 c = 
+returns-2 c =
     let b = c .before .before .before .before .before .before .before .before .before .before in
     record { exits = lengths (b .args .score .now) (b .args .inputs .now) (buffers b) (accepted (c .before .before)) (sym (c .before .wrong-length .ensures) ∙ c .if2 .taken) }
 
@@ -76,7 +76,7 @@ same-length : tie.Need-same-length
 same-length c = search needs
 
 returns-3 : tie.Need-returns-3
-returns-3 c = 
+returns-3 c =
     let b = c .before .before .before .before .before .before .before .before .before .before .before .before .before .before .before in
     record { exits = state (b .args .score .now) (b .args .inputs .now) (buffers b) (accepted (c .before .before .before .before .before .before .before)) (long (c .before .before .before .before .before)) (sym (fault-is (c .before)) ∙ c .if3 .taken) }
 
@@ -96,7 +96,7 @@ clear-requires : tie.Need-clear-requires
 clear-requires c κs = search needs
 
 run-from-requires : tie.Need-run-from-requires
-run-from-requires c κs = 
+run-from-requires c κs =
     let l = right-lengths (buffers (c .before .before .before .before .before .before .before .before .before .before .before .before .before .before .before .before .before .before .before .before .before .before .before .before)) (long (c .before .before .before .before .before .before .before .before .before .before .before .before .before .before)) in
     (sizes-are (c .before .before .before .before .before .before .before .before .before .before .before .before), (playable (c .before .before .before .before .before .before .before .before .before .before .before .before .before .before .before .before), (l .state-long, (lawful (c .before .before .before .before .before .before .before .before .before), sym (form-is (c .before .before .before .before .before .before .before .before)) ∙ c .before .before .before .before .before .before .enum-told2 .given .1))))
 
@@ -104,7 +104,7 @@ same-length-2 : tie.Need-same-length-2
 same-length-2 c = search needs
 
 returns-4 : tie.Need-returns-4
-returns-4 c = 
+returns-4 c =
     let b = c .before .before .before .before .before .before .before .before .before .before .before .before .before .before .before .before .before .before in
     record { exits = bytes (b .args .score .now) (b .args .inputs .now) (buffers b) (accepted (c .before .before .before .before .before .before .before .before .before .before)) (long (c .before .before .before .before .before .before .before .before)) (lawful (c .before .before .before)) (sym (form-is (c .before .before)) ∙ c .enum-told .given .1) }
 
@@ -112,7 +112,7 @@ same-length-3 : tie.Need-same-length-3
 same-length-3 c = search needs
 
 returns-5 : tie.Need-returns-5
-returns-5 c = 
+returns-5 c =
     let b = c .before .before .before .before .before .before .before .before .before .before .before .before .before .before .before .before .before .before .before in
     record { exits = word (b .args .score .now) (b .args .inputs .now) (buffers b) (accepted (c .before .before .before .before .before .before .before .before .before .before .before)) (long (c .before .before .before .before .before .before .before .before .before)) (lawful (c .before .before .before .before)) _ (sym (form-is (c .before .before .before)) ∙ c .before .k .given .1) }
 
@@ -126,7 +126,7 @@ same-length-6 : tie.Need-same-length-6
 same-length-6 c = search needs
 
 returns-6 : tie.Need-returns-6
-returns-6 c = 
+returns-6 c =
     let b = c .before .before .before .before .before .before .before .before .before .before .before .before .before .before .before .before .before .before .before .before .before .before .before .before .before .before .before .before .before in
     record {
       exits =

@@ -35,7 +35,7 @@ abbrev μ-loop : tie.MeasureT-loop
 μ-loop score head inputs journal₀ stands₀ instants₀ at₀ filled₀ journal stands instants at filled = length inputs - at
 
 loop-holds : tie.Need-loop-holds Inv-loop μ-loop
-loop-holds c = 
+loop-holds c =
     let b = c .before .before .before in
     let s = b .args .score .now in
     let j = b .args .journal .now in
@@ -74,7 +74,7 @@ told-known : (c : tie.After-tokens-in Inv-loop μ-loop) (t : ℕ) → sizes (c .
 told-known c t le = ap (λ l. getD l t false) (c .tokens-in .ensures) ∙ flags-known 256 (sizes (c .before .before .before .before .before .before .before .args .score .now) .tokens) _ (rising-below (next-at c .told)) t le
 
 advance-requires : tie.Need-advance-requires Inv-loop μ-loop
-advance-requires c κs = 
+advance-requires c κs =
     let b = c .before .before .before .before .before .before .before .before in
     (b .pre .0, (b .pre .1 .0, (c .before .before .before .before .loop .inv .1 .0, told-known (c .before))))
 
@@ -110,19 +110,33 @@ loop-less : tie.Need-loop-less Inv-loop μ-loop
 loop-less c = omega (arith, next-at (c .before .before .before .before .before .before .before .before) .some, next-at (c .before .before .before .before .before .before .before .before) .fits)
 
 loop-again : tie.Need-loop-again Inv-loop μ-loop
-loop-again c = 
+loop-again c =
     let b = c .before .before .before .before .before .before .before .before .before .before .before .before .before .before .before in
     let l = c .before .before .before .before .before .before .before .before .before .before .before .loop in
     let s = b .args .score .now in
     let t = c .before .before .before .before .before .before .advance in
     let goes : goesOn (t .result .stop) ≡ true = sym (c .before .before .before .goes-on .ensures) ∙ c .before .before .if1 .taken in
-    let long : length (putMid (l .filled) (length (l .journal) - l .filled) (l .journal) (t .last .1 .1 .1 .1 .0)) ≡ length (l .journal) = same-len-mid (l .filled) (length (l .journal) - l .filled) (l .journal) (t .last .1 .1 .1 .1 .0) (t .kept .1 .1 .1 .1 .0) in
-    (next-at (c .before .before .before .before .before .before .before .before) .follows, (t .ensures .lawful, (long ∙ l .inv .1 .1 .0, (omega (arith, fits-at (c .before .before), long, l .inv .1 .1 .0), (omega (arith, next-at (c .before .before .before .before .before .before .before .before) .some, l .inv .1 .1 .1 .1 .0), λ s₀ e.
-      subst (λ j. Half s (b .args .inputs .now) s₀ (b .args .journal .now) j (t .result .standing) (l .instants + 1) (l .at + length (c .before .before .before .before .before .before .before .before .before .part .result .now)) (l .filled + t .result .bytes))
-      (sym (put-back (l .journal) _ (l .filled) (l .inv .1 .1 .1 .0)))
-      (half-more s (b .args .inputs .now) s₀ (b .args .journal .now) (l .journal) (l .stands) (l .instants) (l .at) (l .filled) (l .inv .1 .1 .1 .1 .1 s₀ e)
-      (setOf (c .before .before .before .before .before .before .before .before .tokens-in .result)) (drop (l .at + length (c .before .before .before .before .before .before .before .before .before .part .result .now)) (b .args .inputs .now)) (lists-at (c .before .before .before .before .before .before)) _ (room-long (c .before .before .before .before .before .before)) _ (t .result) (t .ensures)
-      (room-is (l .journal) (l .filled)) (goes-not _ goes) (l .at + length (c .before .before .before .before .before .before .before .before .before .part .result .now)) refl (after-round (c .before .before .before .before .before .before))))))))
+    let long : length (putMid (l .filled) (length (l .journal) - l .filled) (l .journal) (t .last .1 .1 .1 .1 .0)) ≡ length (l .journal) = same-len-mid (l .filled) (length (l .journal) - l .filled) (l .journal) (t .last .1 .1 .1 .1 .0) (t .kept .1 .1 .1 .1 .0) in (
+      next-at (c .before .before .before .before .before .before .before .before) .follows,
+      (
+        t .ensures .lawful,
+        (
+          long ∙ l .inv .1 .1 .0,
+          (
+            omega (arith, fits-at (c .before .before), long, l .inv .1 .1 .0),
+            (
+              omega (arith, next-at (c .before .before .before .before .before .before .before .before) .some, l .inv .1 .1 .1 .1 .0),
+              λ s₀ e.
+                  subst (λ j. Half s (b .args .inputs .now) s₀ (b .args .journal .now) j (t .result .standing) (l .instants + 1) (l .at + length (c .before .before .before .before .before .before .before .before .before .part .result .now)) (l .filled + t .result .bytes))
+                  (sym (put-back (l .journal) _ (l .filled) (l .inv .1 .1 .1 .0)))
+                  (half-more s (b .args .inputs .now) s₀ (b .args .journal .now) (l .journal) (l .stands) (l .instants) (l .at) (l .filled) (l .inv .1 .1 .1 .1 .1 s₀ e)
+                  (setOf (c .before .before .before .before .before .before .before .before .tokens-in .result)) (drop (l .at + length (c .before .before .before .before .before .before .before .before .before .part .result .now)) (b .args .inputs .now)) (lists-at (c .before .before .before .before .before .before)) _ (room-long (c .before .before .before .before .before .before)) _ (t .result) (t .ensures)
+                  (room-is (l .journal) (l .filled)) (goes-not _ goes) (l .at + length (c .before .before .before .before .before .before .before .before .before .part .result .now)) refl (after-round (c .before .before .before .before .before .before))),
+            ),
+          ),
+        ),
+      ),
+    )
 
 same-length : tie.Need-same-length Inv-loop μ-loop
 same-length c = search needs

@@ -61,5 +61,5 @@ returns-2 : tie.Need-returns-2
 returns-2 c = c .before .before .write-state2 .ensures ∙ aborted-bytes (c .before .before .before .before .before .before .before .args .standing) (c .before .before .before .before .if1 .left)
 
 pub write-standing-spec : {M : Type 1} → statement M
-write-standing-spec = 
+write-standing-spec =
     tie.close (tie.spec write-state-requires same-length returns write-state-requires-2 same-length-2 returns-2)
