@@ -1,7 +1,18 @@
-/* score.h: the score engine, a C library that uses no heap and no global state.
+/* score.h: the score engine.
  *
- * A score is a sequence of 32-bit words, stored low byte first. Words are counted from 0.
- * A null pointer with length 0 is an empty buffer. Nothing is asked of alignment.
+ * Four functions: score_check, score_instant, score_run and score_journal_check. Each is lent buffers for the call and
+ * returns an answer of 64 bits, which the functions at the end of this file take apart. They use no heap and no global
+ * state, and keep nothing of what they were lent.
+ *
+ * A caller has three duties:
+ *   - a pointer and its length describe memory that is there; with length 0 the pointer may be null;
+ *   - a buffer that a call writes shares no byte with any other that is lent to that call;
+ *   - nobody else writes what is lent while the call is in flight.
+ * Buffers that are only read may overlap. Nothing is asked of alignment, nor of what any buffer holds: whatever is not
+ * as it should be is refused by number.
+ *
+ * T, N and P are a score's counts of tokens, agents and procedures. Words, agents, procedures and instants are numbered
+ * from 0.
  */
 #ifndef SCORE_H
 #define SCORE_H
@@ -19,36 +30,69 @@ extern "C" {
 #define SCORE_MUST_USE
 #endif
 
-/* A longer score is refused with SCORE_LENGTH. */
+/* Words have 32 bits and are stored low byte first. */
+#define SCORE_WORD_BYTES 4
+
+/* The most that a score can have. A longer one is refused with SCORE_LENGTH. */
+#define SCORE_MAX_TOKENS 256
+#define SCORE_MAX_AGENTS 1024
+#define SCORE_MAX_PROCEDURES 64
+#define SCORE_MAX_RULES 256
 #define SCORE_MAX_BYTES 5384
 
-/* The lengths of what an instant is lent; any other is refused with SCORE_BUFFER. */
+/* The lengths of what is lent beside a score; any other is refused with SCORE_BUFFER. */
 #define SCORE_STATE_BYTES 132
 #define SCORE_MAP_BYTES 32
 #define SCORE_SCRATCH_BYTES 2048
 
-/* Word 0 of a state. */
+/* A map is a set of tokens: token t is bit t % 8 of byte t / 8.
+ *
+ * A state is 33 words: word 0 is one of the two below; agent i is bit i % 32 of word 1 + i / 32, which is bit i % 8 of
+ * byte 4 + i / 8. Any set of the score's agents may be awake in a running state; an aborted one has none. The start
+ * state is a running one with the root of procedure 0, which stands in bits 9..0 of word 2 + N of the score.
+ */
 #define SCORE_STATE_RUNNING UINT32_C(0xF0000000)
 #define SCORE_STATE_ABORTED UINT32_C(0xF0000001)
 
-/* The numbers of answers. T, N and P are the head's counts of tokens, agents and procedures. */
+/* An input list has, for each instant, SCORE_INSTANT_WORD, then SCORE_INPUT_WORD | token for each input token, rising
+ * strictly. A journal has, for each instant, SCORE_INSTANT_WORD | status, then the input words, then
+ * SCORE_OUTPUT_WORD | token for each output token, rising strictly. No bytes is a list, and a journal, of no instants.
+ */
+#define SCORE_INSTANT_WORD UINT32_C(0xC0000000) /* status in bits 1..0, which are 0 in a list; status 3 is no status */
+#define SCORE_INPUT_WORD UINT32_C(0xD0000000)   /* token in bits 7..0 */
+#define SCORE_OUTPUT_WORD UINT32_C(0xE0000000)  /* token in bits 7..0 */
+#define SCORE_KIND_MASK UINT32_C(0xF0000000)
+#define SCORE_STATUS_MASK UINT32_C(0x00000003)
+#define SCORE_TOKEN_MASK UINT32_C(0x000000FF)
+
+/* The most bytes that one instant takes in a list, and in a journal. */
+#define SCORE_MAX_LIST_INSTANT_BYTES 1028
+#define SCORE_MAX_JOURNAL_INSTANT_BYTES 2052
+
+/* The numbers of answers. */
 enum {
-    SCORE_ACCEPTED = 0,
-    SCORE_LENGTH = 1,    /* no bytes, not a multiple of 4, or more than SCORE_MAX_BYTES */
-    SCORE_HEAD = 2,      /* word 0 is not a head, or has an unnamed bit set */
-    SCORE_COUNT = 3,     /* fewer than 2+N+P words, or more than 2+N+P+256 */
-    SCORE_FORM = 4,      /* a word's kind is wrong for its place, or an unnamed bit is set; value: the word */
-    SCORE_TOKEN = 5,     /* a token is T or above; value: the word */
-    SCORE_REFERENCE = 6, /* a body or half not below its agent, a root N or above, a procedure P or above,
-                            or the lowest port above the highest; value: the word */
-    SCORE_CIRCLE = 7,    /* unguarded calls lead from a procedure back to itself; value: the lowest such procedure */
-    SCORE_BUFFER = 8,    /* a state, map or scratch of another length */
-    SCORE_STATE = 9,     /* word 0 of the state is wrong, an agent is N or above, or the state is aborted with agents */
-    SCORE_INPUT = 10,    /* the input map has a token that is T or above */
-    SCORE_NEXT = 11      /* the next state would be refused with SCORE_STATE */
+    SCORE_ACCEPTED = 0,     /* value: the instants written by a run, or read by a journal check */
+    SCORE_LENGTH = 1,       /* score: no bytes, not a multiple of 4, or more than SCORE_MAX_BYTES */
+    SCORE_HEAD = 2,         /* score: word 0 is not a head, or has an unnamed bit set */
+    SCORE_COUNT = 3,        /* score: fewer than 2+N+P words, or more than 2+N+P+256 */
+    SCORE_FORM = 4,         /* score: a word's kind is wrong for its place, or an unnamed bit is set; value: the word */
+    SCORE_TOKEN = 5,        /* score: a token is T or above; value: the word */
+    SCORE_REFERENCE = 6,    /* score: a body or half not below its agent, a root N or above, a procedure P or above,
+                               or the lowest port above the highest; value: the word */
+    SCORE_CIRCLE = 7,       /* score: unguarded calls lead from a procedure back to itself; value: the lowest such
+                               procedure */
+    SCORE_BUFFER = 8,       /* a state, map or scratch of another length */
+    SCORE_STATE = 9,        /* word 0 of the state is wrong, an agent is N or above, or it is aborted with agents */
+    SCORE_INPUT = 10,       /* the input map has a token that is T or above */
+    SCORE_NEXT = 11,        /* the next state would be refused with SCORE_STATE; proved never to happen */
+    SCORE_LIST_LENGTH = 12, /* the bytes of the list or journal that is read are not a multiple of 4 */
+    SCORE_LIST_FORM = 13,   /* a word of it is against its form, or has a token that is T or above; value: the lowest
+                               such word */
+    SCORE_JOURNAL = 14,     /* the journal is not what the run writes; value: the first such instant */
+    SCORE_ROOM = 15         /* the next instant's words exceed the journal bytes left; value: the instants written */
 };
 
-/* The statuses of accepted instants. */
+/* The statuses of instants. */
 enum {
     SCORE_QUIET = 0,  /* nothing was left to reduce */
     SCORE_CLASH = 1,  /* the same, with token 0 in the store, which then holds all T tokens */
@@ -58,6 +102,8 @@ enum {
 /* The stack that a call needs, at most, on x86-64; tests/stack.c measures it. */
 #define SCORE_CHECK_STACK_BYTES 16384
 #define SCORE_INSTANT_STACK_BYTES 20480
+#define SCORE_RUN_STACK_BYTES 22528
+#define SCORE_JOURNAL_CHECK_STACK_BYTES 22528
 
 /* Checks a score. Reads score[0 .. score_len) and writes nothing.
  *
@@ -69,22 +115,15 @@ SCORE_MUST_USE uint64_t score_check(const uint8_t *score, size_t score_len);
 
 /* Plays one instant of a score.
  *
- * Lent and only read: score[0 .. score_len), which is checked first, as score_check does; and
+ * Lent and only read:
+ *   score    which is checked first, as score_check does;
  *   input    the instant's input tokens, a map.
  * Lent to be written:
  *   state    the agents awake; afterwards those awake next;
  *   store    afterwards the map of the tokens in the store at the instant's end;
  *   output   afterwards the map of those of them from the lowest to the highest port;
  *   scratch  the call's working space.
- * A buffer that is written shares no byte with any other that is lent, and while the call is in flight nobody else
- * writes what is lent. Nothing is asked of what the buffers hold: whatever is not as it should be is refused.
- *
- * A map is SCORE_MAP_BYTES long: token t is bit t % 8 of byte t / 8.
- * A state is SCORE_STATE_BYTES long: 33 words, stored as a score's are. Word 0 is SCORE_STATE_RUNNING or
- * SCORE_STATE_ABORTED; agent i is bit i % 32 of word 1 + i / 32, which is bit i % 8 of byte 4 + i / 8. Any set of the
- * score's agents may be awake in a running state; an aborted one has none. To start a score, lend a running state
- * with the root of procedure 0, which stands in bits 9..0 of word 2 + N of the score; for each later instant lend
- * the state as the last one left it.
+ * To start a score, lend its start state; for each later instant lend the state as the last one left it.
  *
  * The answer's number is 0 (accepted) or one of 1 to 11; the lowest that applies is returned, 1 to 7 in the order of
  * score_check. Its value is that of score_check for 1 to 7, and 0 otherwise. An accepted answer has a status and a
@@ -101,6 +140,61 @@ SCORE_MUST_USE uint64_t score_check(const uint8_t *score, size_t score_len);
 SCORE_MUST_USE uint64_t score_instant(const uint8_t *score, size_t score_len, uint8_t *state, size_t state_len,
                                       const uint8_t *input, size_t input_len, uint8_t *store, size_t store_len,
                                       uint8_t *output, size_t output_len, uint8_t *scratch, size_t scratch_len);
+
+/* Runs a score over an input list and writes the journal. Each instant is the one that score_instant plays from the
+ * same state on the same input tokens.
+ *
+ * Lent and only read:
+ *   score    which is checked first, as score_check does;
+ *   inputs   the input list.
+ * Lent to be written:
+ *   state    the agents awake; afterwards those awake after the last instant written;
+ *   journal  of any length, and with any old content; afterwards the journal of the instants written, from its first
+ *            byte on, and beyond them what it held;
+ *   scratch  the call's working space.
+ *
+ * The answer's number is 0 (accepted) or one of 1 to 9, 11, 12, 13 and 15. 1 to 9 are tried as in score_instant, then
+ * 12 and 13 over the whole list before the first instant, then 11 and 15 at each instant. An instant is written whole
+ * or not at all. The run starts at the lent state, so that a list may be run in parts, one after the other.
+ *
+ *   number     value                state                        journal                          scratch
+ *   0          instants written     after the last instant       all instants, then as it was     zero, every byte
+ *   1 to 7     as score_check       as it was                    as it was                        as it was
+ *   8, 9, 12   0                    as it was                    as it was                        as it was
+ *   13         word of the list     as it was                    as it was                        as it was
+ *   11         0                    after the instants written   those before, then as it was     zero, every byte
+ *   15         instants written     after the instants written   those instants, then as it was   zero, every byte
+ *
+ * The answer does not say how many bytes were written. No word of a journal is 0: where the buffer was cleared before
+ * the run, the journal ends at the first word that is 0, or where no word is left. A journal has the words of the list
+ * that it answers, and beside them one for each output token.
+ */
+SCORE_MUST_USE uint64_t score_run(const uint8_t *score, size_t score_len, uint8_t *state, size_t state_len,
+                                  const uint8_t *inputs, size_t inputs_len, uint8_t *journal, size_t journal_len,
+                                  uint8_t *scratch, size_t scratch_len);
+
+/* Checks that a journal is what a run over its own input words writes from the start state.
+ *
+ * Lent and only read:
+ *   score    which is checked first, as score_check does;
+ *   journal  the journal, and not a byte beyond it.
+ * Lent to be written:
+ *   scratch  the call's working space.
+ *
+ * The answer's number is 0 (accepted) or one of 1 to 8 and 11 to 14. 1 to 8 are tried as in score_instant, then 12 and
+ * 13 over the whole journal before the first instant, then 11 and 14 at each instant. A journal that ends early, at
+ * an instant's end, is a journal.
+ *
+ *   number     value                                              scratch
+ *   0          instants read                                      zero, every byte
+ *   1 to 7     as score_check                                     as it was
+ *   8, 12      0                                                  as it was
+ *   13         word of the journal                                as it was
+ *   11         0                                                  zero, every byte
+ *   14         the first instant that is not what the run writes  zero, every byte
+ */
+SCORE_MUST_USE uint64_t score_journal_check(const uint8_t *score, size_t score_len, const uint8_t *journal,
+                                            size_t journal_len, uint8_t *scratch, size_t scratch_len);
 
 /* An answer's top three bits say how the rest is laid out: 0, accepted, with the value in bits 60..0;
  * 1, the number in bits 7..0, the value in bits 31..8, and of an accepted instant, whose number is 0, the status in
@@ -119,7 +213,7 @@ static inline uint32_t score_answer_number(uint64_t answer)
     return layout + 11;
 }
 
-/* The word, procedure or instant that the number speaks of; 0 where it speaks of none. */
+/* The word, procedure, instant or count of instants that the number speaks of; 0 where it speaks of none. */
 static inline uint64_t score_answer_value(uint64_t answer)
 {
     if (answer >> 61 == 1)
