@@ -8,16 +8,24 @@ endif
 CC = gcc
 CFLAGS = -std=c99 -O2 -Wall -Wextra -pedantic -Werror -Iinclude
 
+# The runner's binary. Where it has been built, it is installed as score-runner.
+RUNNER = target/bin/runner
+
+# Where make install puts things: include/, lib/, lib/pkgconfig/ and bin/ in it. DESTDIR is put before it.
+PREFIX = /usr/local
+prefix = $(abspath $(PREFIX))
+VERSION = 1.0.0
+
 # Which of INSTANT, RUN and JOURNAL_CHECK the library has, for the benchmark to time.
-LIBRARY_CALLS = INSTANT
+LIBRARY_CALLS = INSTANT RUN JOURNAL_CHECK
 
 # A library made of an engine that is written by hand, passes or linear, for trying the tests.
 ENGINE = linear
 standin = build/standin-$(ENGINE)
 
-.PHONY: all run test bench clean library standin
+.PHONY: all run test bench install clean library runner standin
 
-all: build/check
+all: library runner build/check build/console
 
 run: build/check
 	build/check sample/score
@@ -28,12 +36,21 @@ test:
 bench: build/bench
 	build/bench sample/score
 
+install: library runner
+	install -d $(DESTDIR)$(prefix)/include $(DESTDIR)$(prefix)/lib/pkgconfig
+	install -m 644 include/score.h $(DESTDIR)$(prefix)/include/score.h
+	install -m 644 $(archive) $(DESTDIR)$(prefix)/lib/libscore.a
+	sed -e 's|@PREFIX@|$(prefix)|' -e 's|@VERSION@|$(VERSION)|' score.pc.in > $(DESTDIR)$(prefix)/lib/pkgconfig/score.pc
+	if [ -e $(RUNNER) ]; then \
+	    install -d $(DESTDIR)$(prefix)/bin && install -m 755 $(RUNNER) $(DESTDIR)$(prefix)/bin/score-runner; \
+	fi
+
 clean:
 	rm -rf build target
 
-build/check: library
+build/check build/console: library
 	mkdir -p build
-	$(CC) $(CFLAGS) examples/check.c $(archive) -o $@
+	$(CC) $(CFLAGS) examples/$(@F).c $(archive) -o $@
 
 build/bench: library
 	mkdir -p build
@@ -50,4 +67,11 @@ standin:
 library:
 ifndef SCORE_LIBRARY_DIR
 	rt staticlib score
+endif
+
+runner:
+ifndef SCORE_LIBRARY_DIR
+ifneq ($(wildcard crates/runner),)
+	rt check runner
+endif
 endif
