@@ -9,7 +9,7 @@ CC = gcc
 CFLAGS = -std=c99 -O2 -Wall -Wextra -pedantic -Werror -Iinclude
 
 # Which of INSTANT, RUN and JOURNAL_CHECK the library has, for the benchmark to time.
-LIBRARY_CALLS = INSTANT
+LIBRARY_CALLS = INSTANT RUN JOURNAL_CHECK
 
 # A library made of an engine that is written by hand, passes or linear, for trying the tests.
 ENGINE = linear
