@@ -8,9 +8,6 @@ endif
 CC = gcc
 CFLAGS = -std=c99 -O2 -Wall -Wextra -pedantic -Werror -Iinclude
 
-# Which of INSTANT, RUN and JOURNAL_CHECK the library has, for the benchmark to time.
-LIBRARY_CALLS = INSTANT RUN JOURNAL_CHECK
-
 # A library made of an engine that is written by hand, passes or linear, for trying the tests.
 ENGINE = linear
 standin = build/standin-$(ENGINE)
@@ -37,7 +34,7 @@ build/check: library
 
 build/bench: library
 	mkdir -p build
-	$(CC) $(CFLAGS) $(LIBRARY_CALLS:%=-DLIBRARY_%) bench/*.c $(archive) -o $@
+	$(CC) $(CFLAGS) bench/*.c $(archive) -o $@
 
 standin:
 	mkdir -p $(standin)
