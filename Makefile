@@ -16,9 +16,6 @@ PREFIX = /usr/local
 prefix = $(abspath $(PREFIX))
 VERSION = 1.0.0
 
-# Which of INSTANT, RUN and JOURNAL_CHECK the library has, for the benchmark to time.
-LIBRARY_CALLS = INSTANT RUN JOURNAL_CHECK
-
 # A library made of an engine that is written by hand, passes or linear, for trying the tests.
 ENGINE = linear
 standin = build/standin-$(ENGINE)
@@ -54,7 +51,7 @@ build/check build/console: library
 
 build/bench: library
 	mkdir -p build
-	$(CC) $(CFLAGS) $(LIBRARY_CALLS:%=-DLIBRARY_%) bench/*.c $(archive) -o $@
+	$(CC) $(CFLAGS) bench/*.c $(archive) -o $@
 
 standin:
 	mkdir -p $(standin)

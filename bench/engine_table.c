@@ -1,14 +1,12 @@
-/* engine_table.c: times the instant, the run and the journal check against two engines written by hand, on five scores;
- * and how the library's instant grows with the score.
- *
- * The library's columns stand for the functions that it has: LIBRARY_INSTANT, LIBRARY_RUN and LIBRARY_JOURNAL_CHECK
- * say so.
+/* engine_table.c: times all calls against two engines written by hand, on five scores; and how the library's calls grow
+ * with the score.
  */
 #define _POSIX_C_SOURCE 199309L
 
 #include <stdio.h>
 #include <string.h>
 
+#include "baseline.h"
 #include "engines.h"
 #include "scores.h"
 #include "tables.h"
@@ -19,31 +17,16 @@ enum { INSTANTS = 1000, STATE_LEN = 132, MAP_LEN = 32, SCRATCH_LEN = 2048, INSTA
 static const double REPETITION_NS = 2e6;
 
 struct calls {
+    check_call *check;
     instant_call *instant;
     run_call *run;
     journal_check_call *journal_check;
 };
 
-static const struct calls passes = {passes_instant, passes_run, passes_journal_check};
-static const struct calls linear = {linear_instant, linear_run, linear_journal_check};
+static const struct calls passes = {baseline_check, passes_instant, passes_run, passes_journal_check};
+static const struct calls linear = {baseline_check, linear_instant, linear_run, linear_journal_check};
 
-#ifdef LIBRARY_INSTANT
-instant_call score_instant;
-#else
-#define score_instant NULL
-#endif
-#ifdef LIBRARY_RUN
-run_call score_run;
-#else
-#define score_run NULL
-#endif
-#ifdef LIBRARY_JOURNAL_CHECK
-journal_check_call score_journal_check;
-#else
-#define score_journal_check NULL
-#endif
-
-static const struct calls library = {score_instant, score_run, score_journal_check};
+static const struct calls library = {score_check, score_instant, score_run, score_journal_check};
 
 static const struct calls *const engines[] = {&passes, &linear, &library};
 
@@ -56,6 +39,11 @@ struct lent {
     uint8_t inputs[INSTANTS * INSTANT_LEN_MAX], journal[INSTANTS * INSTANT_LEN_MAX];
     size_t inputs_len, journal_len;
 };
+
+static uint64_t one_check(const struct calls *calls, struct lent *lent)
+{
+    return calls->check(lent->score.bytes, lent->score.len);
+}
 
 static uint64_t one_instant(const struct calls *calls, struct lent *lent)
 {
@@ -85,17 +73,13 @@ struct row {
 };
 
 static const struct row rows[] = {
+    {"check", one_check, 1},
     {"instant", one_instant, 1},
     {"run", one_run, INSTANTS},
     {"journal check", one_journal_check, INSTANTS},
 };
 
 enum { ROWS = sizeof rows / sizeof *rows };
-
-static int has(const struct calls *calls, int row)
-{
-    return row == 0 ? calls->instant != NULL : row == 1 ? calls->run != NULL : calls->journal_check != NULL;
-}
 
 static void put_word(uint8_t *bytes, size_t *len, uint32_t word)
 {
@@ -192,35 +176,30 @@ static long calls_in_a_repetition(const struct row *row, const struct calls *cal
 }
 
 /* The engines are timed in turn, so that a busy machine slows all of them. */
-static void time_in_turn(const struct row *row, struct lent *lent, double ns[ENGINES], int engines_timed)
+static void time_in_turn(const struct row *row, struct lent *lent, double ns[ENGINES])
 {
     long times[ENGINES];
     int repetition, i;
-    for (i = 0; i < engines_timed; i++) {
+    for (i = 0; i < ENGINES; i++) {
         times[i] = calls_in_a_repetition(row, engines[i], lent);
         ns[i] = 1e18;
     }
     for (repetition = 0; repetition < REPETITIONS; repetition++)
-        for (i = 0; i < engines_timed; i++)
+        for (i = 0; i < ENGINES; i++)
             ns[i] = least(ns[i], time_calls(row, engines[i], lent, times[i]));
 }
 
 /* Prints a row; 0 if the engines differ. */
-static int print_row(const char *name, int number, struct lent *lent)
+static int print_row(const char *name, const struct row *row, struct lent *lent)
 {
-    const struct row *row = &rows[number];
-    int has_library = has(&library, number);
     double ns[ENGINES];
-    if (!agree(row, &passes, &linear, lent) || (has_library && !agree(row, &passes, &library, lent))) {
+    if (!agree(row, &passes, &linear, lent) || !agree(row, &passes, &library, lent)) {
         fprintf(stderr, "bench: %s, %s: the engines refuse it or differ\n", name, row->name);
         return 0;
     }
-    time_in_turn(row, lent, ns, has_library ? ENGINES : ENGINES - 1);
-    printf("%-20s %-14s %10.1f %10.1f", name, row->name, ns[0], ns[1]);
-    if (has_library)
-        printf(" %10.1f %8.2f %8.2f\n", ns[2], ns[2] / ns[0], ns[2] / ns[1]);
-    else
-        printf(" %10s %8s %8s\n", "-", "-", "-");
+    time_in_turn(row, lent, ns);
+    printf("%-20s %-14s %10.1f %10.1f %10.1f %8.2f %8.2f\n", name, row->name, ns[0], ns[1], ns[2], ns[2] / ns[0],
+           ns[2] / ns[1]);
     return 1;
 }
 
@@ -228,18 +207,18 @@ int print_engine_table(void)
 {
     static struct lent lent;
     int kind, row, equal = 1;
-    printf("%-20s %-14s %10s %10s %10s %8s %8s\n", "ns an instant", "call", "C passes", "C linear", "library",
+    printf("%-20s %-14s %10s %10s %10s %8s %8s\n", "ns a check, an instant", "call", "C passes", "C linear", "library",
            "/passes", "/linear");
     for (kind = 0; kind < KINDS; kind++) {
         prepare(&lent, kinds[kind].build, kinds[kind].size);
         for (row = 0; row < ROWS; row++)
-            equal &= print_row(kinds[kind].name, row, &lent);
+            equal &= print_row(kinds[kind].name, &rows[row], &lent);
     }
     return equal;
 }
 
-/* Times the library's instant on a score of half the size and of the whole, in turn; 0 if an answer is wrong. */
-static int print_growth(const struct kind *kind)
+/* How the library's time for a call grows from a score of half the size to the whole; 0 if an answer is wrong. */
+static double growth(const struct kind *kind, const struct row *row)
 {
     static struct lent lent[2];
     double ns[2] = {1e18, 1e18};
@@ -247,24 +226,32 @@ static int print_growth(const struct kind *kind)
     int repetition, i;
     for (i = 0; i < 2; i++) {
         prepare(&lent[i], kind->build, kind->size * (1 + i) / 2);
-        if (!agree(&rows[0], &passes, &library, &lent[i]))
+        if (!agree(row, &passes, &library, &lent[i]))
             return 0;
-        times[i] = calls_in_a_repetition(&rows[0], &library, &lent[i]);
+        times[i] = calls_in_a_repetition(row, &library, &lent[i]);
     }
     for (repetition = 0; repetition < REPETITIONS; repetition++)
         for (i = 0; i < 2; i++)
-            ns[i] = least(ns[i], time_calls(&rows[0], &library, &lent[i], times[i]));
-    printf("%-20s %10.1f %10.1f %8.2f\n", kind->name, ns[0], ns[1], ns[1] / ns[0]);
-    return 1;
+            ns[i] = least(ns[i], time_calls(row, &library, &lent[i], times[i]));
+    return ns[1] / ns[0];
 }
 
+/* No call may grow faster than the square of the score's size, which is fourfold where it doubles. */
 int print_growth_table(void)
 {
-    int kind, equal = 1;
-    if (!has(&library, 0))
-        return 1;
-    printf("%-20s %10s %10s %8s\n", "library's instant", "half", "whole", "growth");
-    for (kind = 0; kind < KINDS; kind++)
-        equal &= print_growth(&kinds[kind]);
+    int kind, row, equal = 1;
+    printf("%-20s", "growth, size doubled");
+    for (row = 0; row < ROWS; row++)
+        printf(" %14s", rows[row].name);
+    printf("\n");
+    for (kind = 0; kind < KINDS; kind++) {
+        printf("%-20s", kinds[kind].name);
+        for (row = 0; row < ROWS; row++) {
+            double factor = growth(&kinds[kind], &rows[row]);
+            equal &= factor > 0;
+            printf(" %14.2f", factor);
+        }
+        printf("\n");
+    }
     return equal;
 }

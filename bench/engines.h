@@ -7,6 +7,8 @@
 #include <stddef.h>
 #include <stdint.h>
 
+typedef uint64_t check_call(const uint8_t *score, size_t score_len);
+
 typedef uint64_t instant_call(const uint8_t *score, size_t score_len, uint8_t *state, size_t state_len,
                               const uint8_t *input, size_t input_len, uint8_t *store, size_t store_len,
                               uint8_t *output, size_t output_len, uint8_t *scratch, size_t scratch_len);

@@ -1,16 +1,17 @@
 -- The marked cases hold: antt runs the definitions on each. Of a refused call it runs the score check and what is asked
--- of one agent or token; the agents and tokens of whole buffers are found by the laws of crate lent.
+-- of one agent or token; the agents and tokens of whole buffers are found by the laws of crate lent. Of a run it runs the
+-- score check, the form of the list and the instants from the start state, in place of those from the state's bytes.
 use mathlib.Core.Path.{_≡_, refl, sym, _∙_}
 use mathlib.Core.Bool.{true, false}
-use mathlib.Core.List.{List, [], _∷_, List·Memᴰ·eq-of-singleton}
-use Prim.Native.Nat.{ℕ, _+_, _/_, _%_}
+use mathlib.Core.List.{List, [], _∷_, append-nil, List·Memᴰ·eq-of-singleton}
+use Prim.Native.Nat.{ℕ, _+_, _*_, _/_, _%_}
 use native.Mathlib.Omega.{arith}
 use lib.Dec.{leb}
-use lib.ListN.{length}
+use lib.ListN.{length, take, drop-of-length-le}
 use Rattle.tcc.specs.Closure.{fires, firing, closeWithin, close}
 use Rattle.tcc.specs.Sets.{any}
 use Rattle.tcc.specs.Unguarded.{metFrom, circular}
-use Rattle.tcc.specs.Instant.{running, reached, instant, answer, answers}
+use Rattle.tcc.specs.Instant.{running, reached, instant, output, answer, answers}
 use Rattle.tcc.proofs.Sets.{some-any, keep-kept, lt-below}
 use Rattle.words.specs.Word.{words, wordAt, field}
 use Rattle.words.specs.Map.{inMap}
@@ -24,8 +25,17 @@ use Rattle.lent.specs.States.{agentsIn, stateFault, agentWords, asBytes, Lawful
 use Rattle.lent.proofs.Faults.{fault-running}
 use Rattle.lent.proofs.Round.{lawful-bytes}
 use Rattle.instant.specs.declared.Reply.the-variants.{State, Input}
-use Rattle.instant.specs.InstantCall.{Lent, lent, lengthFault, tokenFault, kept, exit}
-use Rattle.cases.specs.Cases.{bytes, turned-down, Holds, sample, state-with, input-with, Marked}
+use Rattle.instant.specs.InstantCall.{Lent, lent, noScratch, lengthFault, tokenFault, kept, exit}
+use Rattle.journal.specs.declared.Form.the-variants.{Good}
+use Rattle.journal.specs.Form.{mayFollow, firstAgainst, formOf}
+use Rattle.journal.specs.Instants.{upTo, instantsIn, tokensOf, inputLists}
+use Rattle.journal.specs.History.{instantWords}
+use Rattle.history.specs.declared.Stop.{Stop}
+use Rattle.history.specs.declared.Stop.the-variants.{Not, Room}
+use Rattle.history.specs.Run.{Ran}
+use Rattle.history.specs.RunCall as run
+use Rattle.cases.specs.Cases.{bytes, turned-down, Holds, sample, state-with, input-with, listed, printed, Marked}
+use Rattle.cases.proofs.Runs.{playOn, exit-plays}
 
 refused-length : (n : ℕ) → lengthVerdict n ≡ Length → (s : List ℕ) → length s ≡ n → verdict s ≡ Length
 unfolding verdict
@@ -55,9 +65,12 @@ agent-4-bytes : bytes (state-with 0x10) ≡ asBytes (running (4 ∷ []))
 unfolding asBytes agentWords bitsValue bytesOf
 agent-4-bytes = refl
 
-agent-4 : stateFault 5 (bytes (state-with 0x10)) ≡ false
+start-lawful : LawfulState 5 (running (4 ∷ []))
 unfolding LawfulState
-agent-4 = rw agent-4-bytes (lawful-bytes 5 (omega arith) (running (4 ∷ [])) (λ i m. let e = List·Memᴰ·eq-of-singleton m in omega arith))
+start-lawful i m = let e = List·Memᴰ·eq-of-singleton m in omega arith
+
+agent-4 : stateFault 5 (bytes (state-with 0x10)) ≡ false
+agent-4 = rw agent-4-bytes (lawful-bytes 5 (omega arith) (running (4 ∷ [])) start-lawful)
 
 -- token 4 is in the map, of four tokens
 token-4 : any (λ t. leb 4 t) (tokensIn (input-with 0x10)) ≡ true
@@ -80,8 +93,27 @@ input-refused store output scratch h i j =
     bad-input (bytes sample) (input-with 0x10) (lent (bytes (state-with 0x10)) store output scratch) sample-accepted
     (lengths-right (bytes (state-with 0x10)) (input-with 0x10) store output scratch refl refl h i j) agent-4 token-4
 
+-- the list has its form
+listed-good : formOf false 4 (bytes listed) ≡ Good
+unfolding words field isWord mayFollow firstAgainst formOf
+listed-good = refl
+
+-- a run of S from its start state, by what it does, where its words fill the journal
+sample-runs : (n : ℕ) (r : Ran) → playOn (decode (bytes sample)) (running (4 ∷ [])) n (inputLists (bytes listed)) ≡ r → n ≡ 4 * length (r .words) →
+    (journal scratch : List ℕ) → length journal ≡ n → length scratch ≡ 2048 →
+    run.exit (bytes sample) (bytes listed) (run.lent (asBytes (running (4 ∷ []))) journal scratch)
+    ≡ record { lent = run.lent (r .state) (bytesOf (r .words)) noScratch; reply = run.ending (r .stop) (r .instants) }
+unfolding words field
+sample-runs n r e fills journal scratch h i =
+    exit-plays (bytes sample) sample-accepted (bytes listed) journal scratch (running (4 ∷ [])) start-lawful i listed-good
+    ∙ rw (h, e, drop-of-length-le journal {i = 4 * length (r .words)} (omega arith), append-nil (bytesOf (r .words))) refl
+
+-- what a run does that leaves agent 2 awake
+abbrev ran : List ℕ → ℕ → Stop → Ran
+ran written n stop = record { words = written; state = bytes (state-with 0x4); instants = n; stop = stop }
+
 pub marked : Marked
-unfolding fires firing closeWithin close metFrom circular reached instant answer answers words field isWord decodeAgent decode wordVerdict firstFault circleFrom verdict
+unfolding fires firing closeWithin close metFrom circular reached instant output answer answers words field isWord decodeAgent decode wordVerdict firstFault circleFrom verdict bitsValue bytesOf agentWords asBytes upTo instantsIn tokensOf inputLists instantWords playOn
 marked = (
   refl,
   (
@@ -92,7 +124,7 @@ marked = (
         refused-length 3 refl,
         (
           refused-length 5388 refl,
-          (refl, (refl, (refl, (refl, (state-refused, (input-refused, (refl, (refl, (refl, (refl, (refl, (refl, tt)))))))))))),
+          (refl, (refl, (refl, (refl, (state-refused, (input-refused, (refl, (refl, (sample-runs 16 (ran (take 4 printed) 2 Room) refl refl, (sample-runs 12 (ran (take 3 printed) 1 Room) refl refl, (sample-runs 36 (ran printed 3 Not) refl refl, (refl, (refl, (refl, (refl, tt))))))))))))))),
         ),
       ),
     ),

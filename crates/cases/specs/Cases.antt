@@ -5,23 +5,28 @@
 --     sample           score S
 --     state-with, input-with
 --                      the words of a state, the bytes of an input map
+--     listed, printed  the words of the input list {1}, {}, {1,3}, and of the journal that S makes of it
 --     marked           the table
 --     Marked           every case of the table holds
 use mathlib.Core.Path.{_≡_}
 use mathlib.Core.List.{List, [], _∷_, map}
 use Prim.Native.Nat.{ℕ, _/_, _%_, _^_}
-use lib.ListN.{length, set, replicate}
+use lib.ListN.{length, take, set, replicate}
 use Rattle.tcc.specs.Sets.{below, keep, has}
 use Rattle.tcc.specs.Score.{Score}
 use Rattle.tcc.specs.Weight.{weight}
-use Rattle.tcc.specs.Instant.{Answer, count, running, answers}
+use Rattle.tcc.specs.Instant.{Answer, count, running, startState, answers}
 use Rattle.scorefile.specs.declared.Verdict.{Verdict}
 use Rattle.scorefile.specs.declared.Verdict.the-variants.{Accepted, Length, Token, Reference, Circle}
 use Rattle.format.specs.Decode.{decode}
 use Rattle.scorefile.specs.Check.{verdict}
+use Rattle.lent.specs.States.{asBytes}
 use Rattle.instant.specs.declared.Reply.{Reply}
 use Rattle.instant.specs.declared.Reply.the-variants.{State, Input}
-use Rattle.instant.specs.InstantCall.{Exit, lent, exit}
+use Rattle.instant.specs.InstantCall.{Exit, lent, exit, noScratch}
+use Rattle.history.specs.declared.Reply.{Reply as RunReply}
+use Rattle.history.specs.declared.Reply.the-variants as run-reply
+use Rattle.history.specs.RunCall as run
 
 abbrev pub bytes : List ℕ → List ℕ
 bytes [] = []
@@ -47,6 +52,9 @@ pub data Case : Type 0 where
   -- an instant call that is refused, given by the words of the score and of the state and the bytes of the input map:
   -- all buffers are as they were, whatever the other three held
   turned-down : List ℕ → List ℕ → List ℕ → Reply → Case
+  -- a run from the start state, given by the words of the score and of the input list and by the length of the journal:
+  -- the words that the journal and the state hold afterwards, and the reply, whatever journal and scratch held
+  runs : List ℕ → List ℕ → ℕ → List ℕ → List ℕ → RunReply → Case
 
 abbrev pub Holds : Case → Type 0
 Holds (checked ws v) = verdict (bytes ws) ≡ v
@@ -56,6 +64,10 @@ Holds (instants ws agents inputs l) = map (seen (decode (bytes ws))) (answers (d
 Holds (turned-down ws state input r) =
     (store output scratch : List ℕ) → length store ≡ 32 → length output ≡ 32 → length scratch ≡ 2048 →
     _≡_ {A = Exit} (exit (bytes ws) input (lent (bytes state) store output scratch)) (record { lent = lent (bytes state) store output scratch; reply = r })
+Holds (runs ws inputs n written state r) =
+    (journal scratch : List ℕ) → length journal ≡ n → length scratch ≡ 2048 →
+    _≡_ {A = run.Exit} (run.exit (bytes ws) (bytes inputs) (run.lent (asBytes (startState (decode (bytes ws)))) journal scratch))
+    (record { lent = run.lent (bytes state) (bytes written) noScratch; reply = r })
 
 abbrev pub sample : List ℕ
 sample = 0x10000403 ∷ 0xB0000302 ∷ 0x50000002 ∷ 0x70000400 ∷ 0xA0000000 ∷ 0x80000002 ∷ 0x60000C01 ∷ 0x30000004 ∷ 0x20030200 ∷ []
@@ -70,6 +82,13 @@ state-with agents = 0xF0000000 ∷ agents ∷ replicate 31 0
 -- an input map whose tokens are the bits of its first byte
 abbrev pub input-with : ℕ → List ℕ
 input-with tokens = tokens ∷ replicate 31 0
+
+-- {1}, {}, {1,3}
+abbrev pub listed : List ℕ
+listed = 0xC0000000 ∷ 0xD0000001 ∷ 0xC0000000 ∷ 0xC0000000 ∷ 0xD0000001 ∷ 0xD0000003 ∷ []
+
+abbrev pub printed : List ℕ
+printed = 0xC0000000 ∷ 0xD0000001 ∷ 0xE0000002 ∷ 0xC0000000 ∷ 0xC0000001 ∷ 0xD0000001 ∷ 0xD0000003 ∷ 0xE0000002 ∷ 0xE0000003 ∷ []
 
 -- agent 0 tells 1, agent 1 is "unless 1" with body 0, T = 2
 abbrev pub unless-pair : List ℕ
@@ -96,6 +115,9 @@ marked =
     ∷ instants aborting (4 ∷ []) ((1 ∷ []) ∷ [] ∷ [])
     (record { status = 2; count = 0; awake = [] } ∷ record { status = 2; count = 0; awake = [] } ∷ [])
     ∷ instants aborting (4 ∷ []) ((0 ∷ []) ∷ []) (record { status = 2; count = 0; awake = [] } ∷ [])
+    ∷ runs sample listed 16 (take 4 printed) (state-with 0x4) (run-reply.Full 2)
+    ∷ runs sample listed 12 (take 3 printed) (state-with 0x4) (run-reply.Full 1)
+    ∷ runs sample listed 36 printed (state-with 0x4) (run-reply.Accepted 3)
     ∷ instants unless-pair (1 ∷ []) ([] ∷ []) (record { status = 0; count = 0; awake = 0 ∷ [] } ∷ [])
     ∷ instants unless-pair (1 ∷ []) ((1 ∷ []) ∷ []) (record { status = 0; count = 1; awake = [] } ∷ [])
     ∷ weights parallel-pair (1 ∷ 3 ∷ [])

@@ -11,6 +11,7 @@ use Rattle.tcc.specs.Instant.{Answer, answer, after}
 use Rattle.format.specs.Decode.{sizes, decode}
 use Rattle.scorefile.specs.declared.Verdict.{Verdict}
 use Rattle.scorefile.specs.Check.{numberOf, verdict}
+use Rattle.scorefile.proofs.Accepted.{neither}
 use Rattle.lent.specs.Maps.{mapBytes, tokensIn}
 use Rattle.lent.specs.States.{stateBytes, stateFault, stateOf, asBytes}
 use Rattle.instant.specs.declared.Reply.the-variants.{Score as Turned, Lengths, State, Input}
@@ -48,10 +49,6 @@ pub record Lengths-are (given : List ℕ) (l : Lent) : Type 0 where
   pub store-long : length (l .store) ≡ mapBytes
   pub output-long : length (l .output) ≡ mapBytes
   pub scratch-long : length (l .scratch) ≡ scratchBytes
-
-pub neither : (a b : Bool) → (a || b) ≡ false → (a ≡ false) × (b ≡ false)
-neither true b e = (e, absurd (true≢false e))
-neither false b e = (refl, e)
 
 pub right : (m n : ℕ) → not (eqb m n) ≡ false → m ≡ n
 right m n e = eqb-true m n (not-false (eqb m n) e)

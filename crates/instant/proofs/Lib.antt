@@ -1,3 +1,4 @@
+pub mod Standings
 pub mod Ports
 pub mod Exits
 pub mod Written

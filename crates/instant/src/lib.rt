@@ -12,7 +12,7 @@ ghost use Rattle.engine.specs.Outcome.{outcomeOf};
 ghost use Rattle.lent.specs.Maps.{mapBytes};
 ghost use Rattle.lent.specs.States.{stateBytes, runningWord, abortedWord, stateOf, asBytes, LawfulState};
 ghost use Rattle.instant.specs.InstantCall.{lent, scratchBytes, InstantCall};
-ghost use Rattle.instant.specs.Standing.{stateIn};
+ghost use Rattle.instant.specs.Standing.{stateIn, standingIn};
 ghost use Rattle.instant.specs.HandedOver.{Buffers, Known, HandedOver};
 use engine::Outcome;
 use format::Sizes;
@@ -151,7 +151,7 @@ fn answer_in(score: &[u8], head: Sizes, state: &[u8], inputs: Tokens) -> Outcome
 // Where a score stands in a state.
 pub fn standing_in(state: &[u8]) -> Standing
     requires { ⌜ length (now state) ≡ 132 ⌝ }
-    ensures { λ r. ⌜ stateIn r ≡ stateOf (now (state .entry)) ⌝ }
+    ensures { λ r. ⌜ r ≡ standingIn (now (state .entry)) ⌝ }
 {
     let running = words::word_at(state, 0) != ABORTED;
     let awake = lent::read_agents(state);

@@ -23,6 +23,7 @@ use Rattle.scorefile.specs.declared.Verdict.the-variants.{Accepted}
 use Rattle.scorefile.specs.Check.{verdict}
 use Rattle.scorefile.specs.Check as check
 use Rattle.scorefile.proofs.Values.{verdict-small, number-few, verdict-settled}
+use Rattle.store.proofs.Flags.{below-length, keep-few}
 use Rattle.lent.specs.Maps.{tokensIn}
 use Rattle.lent.specs.States.{stateFault, stateOf, asBytes}
 use Rattle.instant.specs.declared.Reply.{Reply as Replied}
@@ -41,20 +42,8 @@ one-exit score input before after₁ after₂ a b p q = (p .written ∙ sym (q .
 record Bounded (sc : Score) (a : Answer) : Type 0 where
   count : count a ≤ length (sc .agents)
 
-below-length : (n : ℕ) → length (below n) ≡ n
-below-length zero = refl
-below-length (suc n) = simp length-append (omega (arith, below-length n))
-
-keep-length : (f : ℕ → Bool) (l : List ℕ) → length (keep f l) ≤ length l
-keep-length f [] = omega arith
-keep-length f (x ∷ l) = go (f x) (keep-length f l)
-  where
-    go : (b : Bool) → length (keep f l) ≤ length l → length (cond b (x ∷ keep f l) (keep f l)) ≤ suc (length l)
-    go true h = omega arith
-    go false h = omega arith
-
 keep-below : (f : ℕ → Bool) (n : ℕ) → length (keep f (below n)) ≤ n
-keep-below f n = omega (arith, keep-length f (below n), below-length n)
+keep-below f n = omega (arith, keep-few f (below n), below-length n)
 
 either-bounded : (sc : Score) (b : Bool) (store lives : List ℕ) → Bounded sc (cond b abortedAnswer (quietAnswer sc store lives))
 either-bounded sc true store lives = record { count = omega arith }

@@ -87,7 +87,7 @@ fine h k formed tokens astray e =
     let p = passed k formed (any (λ t. leb (h .tokens) t) tokens) astray e in
     record { is-formed = p .0; known = none-above (h .tokens) tokens (p .1); not-astray = p .2 }
 
-neither : (a b : Bool) → (a || b) ≡ false → (a ≡ false) × (b ≡ false)
+pub neither : (a b : Bool) → (a || b) ≡ false → (a ≡ false) × (b ≡ false)
 neither true b e = (e, absurd (true≢false e))
 neither false b e = (refl, e)
 

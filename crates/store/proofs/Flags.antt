@@ -1,5 +1,6 @@
 -- Laws of sets as flags.
 --     keep-append        the kept of two lists, one after the other
+--     keep-few           no more are kept than there are
 --     below-length, below-at     `below n` has n entries, entry i is i
 --     map-at             entry i of the images is the image of entry i
 --     flag-member, member-flag   the members of a set are the numbers flagged
@@ -42,7 +43,7 @@ module _ {A : Type 0} (f : A → Bool) where
   keep-none [] h = refl
   keep-none (x ∷ l) h = let p : f x ≡ false = h x (List·Memᴰ·head refl) in rw p (keep-none l (λ y m. h y (List·Memᴰ·tail m)))
 
-  keep-few : (l : List A) → length (keep f l) ≤ length l
+  pub keep-few : (l : List A) → length (keep f l) ≤ length l
   keep-few [] = omega arith
   keep-few (x ∷ l) = go (f x) (keep-few l)
     where

@@ -1,10 +1,11 @@
 -- `run_from`: the run from where the score stands.
-use mathlib.Core.Path.{_≡_, sym, ap₂, subst⁻¹, _∙_}
+use mathlib.Core.Path.{_≡_, sym, ap, ap₂, subst⁻¹, _∙_}
 use lib.ListN.{length}
 use Rattle.format.specs.Decode.{sizes}
-use Rattle.lent.specs.States.{LawfulState}
+use Rattle.lent.specs.States.{stateOf, LawfulState}
 use Rattle.lent.proofs.Round.{faultless-lawful}
 use Rattle.instant.specs.Standing.{stateIn}
+use Rattle.instant.proofs.Standings.{standing-state}
 use Rattle.journal.specs.Instants.{inputLists}
 use Rattle.history.specs.Run.{runFrom}
 use Rattle.history.specs.RunCall.{ending}
@@ -16,15 +17,18 @@ use Rattle.history.proofs.run_from.Tie as tie
 standing-in-requires : tie.Need-standing-in-requires
 standing-in-requires c κs = search needs
 
+stands : (c : tie.After-standing-in) → stateIn (c .standing-in .result) ≡ stateOf (c .before .before .before .before .before .before .args .state .now)
+stands c = ap stateIn (c .standing-in .ensures) ∙ standing-state (c .before .before .before .before .before .before .args .state .now)
+
 -- the run, by its definition
 ran : (c : tie.After-run-list) → let b = c .before .before .before .before .before .before .before .before in
     RanTo (b .args .score .now) (b .args .state .now) (b .args .journal .now) (c .run-list .last .1 .1 .1 .1 .0) (runFrom (b .args .score .now) (b .args .state .now) (length (b .args .journal .now)) (inputLists (b .args .inputs .now))) (c .run-list .result)
-ran c = c .run-list .ensures (c .before .before .before .before .before .before .before .before .args .state .now) (sym (c .before .before .standing-in .ensures))
+ran c = c .run-list .ensures (c .before .before .before .before .before .before .before .before .args .state .now) (sym (stands (c .before .before)))
 
 run-list-requires : tie.Need-run-list-requires
 run-list-requires c κs =
     let b = c .before .before .before .before .before .before .before in
-    (b .pre .0, (b .pre .1 .0, (subst⁻¹ (LawfulState (sizes (b .args .score .now) .agents)) (c .before .standing-in .ensures) (faultless-lawful (sizes (b .args .score .now) .agents) (b .args .state .now) (b .pre .1 .1 .1 .0)), b .pre .1 .1 .1 .1)))
+    (b .pre .0, (b .pre .1 .0, (subst⁻¹ (LawfulState (sizes (b .args .score .now) .agents)) (stands (c .before)) (faultless-lawful (sizes (b .args .score .now) .agents) (b .args .state .now) (b .pre .1 .1 .1 .0)), b .pre .1 .1 .1 .1)))
 
 keep-requires : tie.Need-keep-requires
 keep-requires c κs =

@@ -5,6 +5,8 @@ use Rattle.tcc.specs.Instant.{answer}
 use Rattle.format.specs.Decode.{decode}
 use Rattle.store.specs.Flags.{setOf}
 use Rattle.engine.specs.Outcome.{outcomeOf}
+use Rattle.instant.specs.Standing.{stateIn}
+use Rattle.instant.proofs.Standings.{standing-state}
 use Rattle.instant.proofs.answer_in.Statement.{statement}
 use Rattle.instant.proofs.answer_in.Tie as tie
 
@@ -17,7 +19,7 @@ answer-from-requires c κs = search needs
 returns : tie.Need-returns
 returns c =
     let b = c .before .before .before .before in
-    c .answer-from .ensures ∙ ap (λ st. outcomeOf (answer (decode (b .args .score .now)) st (setOf (b .args .inputs)))) (c .before .standing-in .ensures)
+    c .answer-from .ensures ∙ ap (λ st. outcomeOf (answer (decode (b .args .score .now)) st (setOf (b .args .inputs)))) (ap stateIn (c .before .standing-in .ensures) ∙ standing-state (b .args .state .now))
 
 pub answer-in-spec : {M : Type 1} → statement M
 answer-in-spec =

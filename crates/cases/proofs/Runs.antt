@@ -1,0 +1,87 @@
+-- The run call from a state written as bytes, by the instants of the state itself.
+--     playOn       a run from a state: an instant is not written where its words exceed the journal bytes left
+--     run-plays    of an accepted score, from a lawful state, on rising inputs, a run over bytes is that one
+--     exit-plays   so is the run call, on a list of good form
+use mathlib.Core.Path.{_≡_, refl, sym, subst}
+use mathlib.Core.Bool.{false, cond}
+use mathlib.Core.List.{List, [], _∷_, List·Memᴰ·head, List·Memᴰ·tail}
+use Prim.Native.Nat.{ℕ, _*_, _-_}
+use native.Mathlib.Omega.{arith}
+use lib.Dec.{leb}
+use lib.ListN.{length}
+use Rattle.tcc.specs.Score.{Score}
+use Rattle.tcc.specs.Lawful.{Lawful}
+use Rattle.tcc.specs.Instant.{State, answer, after}
+use Rattle.tcc.proofs.Sets.{Within, same-refl}
+use Rattle.format.specs.Decode.{sizes, decode}
+use Rattle.format.proofs.Decode.{decode-agents, decode-tokens, sizes-few}
+use Rattle.scorefile.specs.Check.{numberOf, verdict}
+use Rattle.scorefile.proofs.Accepted.{accepted-only}
+use Rattle.scorefile.proofs.Lawful.{accepted-lawful, accepted-faultless}
+use Rattle.lent.specs.States.{stateOf, asBytes, LawfulState}
+use Rattle.lent.proofs.Round.{asBytes-same, asBytes-length, lawful-bytes}
+use Rattle.lent.proofs.SameState.{answer-same, after-same}
+use Rattle.instant.proofs.Written.{answer-inside, after-lawful}
+use Rattle.journal.specs.declared.Form.the-variants.{Good}
+use Rattle.journal.specs.Form.{formOf}
+use Rattle.journal.specs.Instants.{inputLists}
+use Rattle.journal.specs.History.{entry, Rising}
+use Rattle.journal.proofs.Forms.{good-inputs}
+use Rattle.journal.proofs.Rising.{rising-below}
+use Rattle.history.specs.declared.Stop.the-variants.{Not, Room}
+use Rattle.history.specs.Run.{answerIn, stopAt, Ran, stopped, unlessStopped, runFrom}
+use Rattle.history.specs.RunCall.{lent, ended, exit}
+use Rattle.history.proofs.Exact.{Stands, written-stands, instant-entry, instant-lawful}
+
+unfoldable pub playOn : Score → State → ℕ → List (List ℕ) → Ran
+playOn sc st room [] = stopped (asBytes st) Not
+playOn sc st room (inputs ∷ more) =
+    unlessStopped (cond (leb (4 * length (entry sc inputs (answer sc st inputs))) room) Not Room) (asBytes st)
+    (entry sc inputs (answer sc st inputs))
+    (playOn sc (after (answer sc st inputs)) (room - 4 * length (entry sc inputs (answer sc st inputs))) more)
+
+module _ (score : List ℕ) (accepted : numberOf (verdict score) ≡ 0) where
+  law : Lawful (decode score)
+  law = accepted-lawful score (accepted-only (verdict score) accepted)
+
+  counted : length (decode score .agents) ≡ sizes score .agents
+  counted = let f = accepted-faultless score (accepted-only (verdict score) accepted) in decode-agents score (omega (arith, f .enough))
+
+  module _ (st : State) (lawful : LawfulState (length (decode score .agents)) st) (inputs : List ℕ) where
+    stands : Stands score law counted (asBytes st) st
+    stands = written-stands score law counted st lawful
+
+    after-bytes : asBytes (after (answerIn score (asBytes st) inputs)) ≡ asBytes (after (answer (decode score) st inputs))
+    unfolding answerIn
+    after-bytes =
+        let a = answer (decode score) (stateOf (asBytes st)) inputs in
+        let b = answer (decode score) st inputs in
+        asBytes-same (after a) (after b) (after-same a b (answer-same (decode score) (stateOf (asBytes st)) st (stands .same) (same-refl inputs)))
+
+    next-lawful : Rising (decode score .tokens) inputs → LawfulState (length (decode score .agents)) (after (answer (decode score) st inputs))
+    next-lawful rising = after-lawful (decode score) (answer (decode score) st inputs) (length (decode score .agents)) (omega arith) (answer-inside (decode score) st inputs law lawful (rising-below rising))
+
+  pub run-plays : (lists : List (List ℕ)) → Within (Rising (decode score .tokens)) lists → (st : State) → LawfulState (length (decode score .agents)) st → (room : ℕ) →
+      runFrom score (asBytes st) room lists ≡ playOn (decode score) st room lists
+  unfolding runFrom stopAt playOn
+  run-plays [] rising st lawful room = refl
+  run-plays (inputs ∷ more) rising st lawful room =
+      let h = rising inputs (List·Memᴰ·head refl) in
+      let b = answer (decode score) st inputs in
+      let s = stands st lawful inputs in
+      let rest = run-plays more (λ l m. rising l (List·Memᴰ·tail m)) (after b) (next-lawful st lawful inputs h) (room - 4 * length (entry (decode score) inputs b)) in
+      rw (instant-lawful score law counted s inputs h, instant-entry score law counted s inputs, after-bytes st lawful inputs, rest)
+
+  pub exit-plays : (inputs journal scratch : List ℕ) (st : State) → LawfulState (sizes score .agents) st → length scratch ≡ 2048 → formOf false (sizes score .tokens) inputs ≡ Good →
+      exit score inputs (lent (asBytes st) journal scratch) ≡ ended journal (playOn (decode score) st (length journal) (inputLists inputs))
+  unfolding exit
+  exit-plays inputs journal scratch st lawful long good =
+      let rising : Within (Rising (decode score .tokens)) (inputLists inputs) = λ l m. subst (λ t. Rising t l) (sym (decode-tokens score)) (good-inputs false (sizes score .tokens) inputs good l m) in
+      rw (
+        accepted,
+        asBytes-length st,
+        long,
+        lawful-bytes (sizes score .agents) (sizes-few score .1) st lawful,
+        good,
+        run-plays (inputLists inputs) rising st (subst (λ n. LawfulState n st) (sym counted) lawful) (length journal),
+      )
