@@ -1,12 +1,45 @@
 ghost use mathlib.Core.Path.{_≡_};
 ghost use lib.ListN.{take, drop};
-ghost use Rattle.reader.specs.Reading.{startOf, sizeAt, placeAfter};
+ghost use Rattle.reader.specs.Reading.{startOf, sizeAt, placeAfter, placeOf, readerAt};
 use journal::Form;
 
 // A journal, and the position of the instant that is shown next.
 pub struct Reader<'a> {
     journal: &'a [u8],
     at: usize,
+}
+
+// A reader of a journal, of a score with so many tokens.
+pub fn new<'a>(journal: &'a [u8], tokens: usize) -> Reader<'a>
+    ensures { λ r. ⌜ r ≡ readerAt (journal .entry) (startOf tokens (now (journal .entry))) ⌝ }
+{
+    let at = start_of(journal, tokens);
+    Reader { journal, at }
+}
+
+// The words of the next instant, as a part of the journal's bytes; none past the last.
+pub fn shown<'a>(r: Reader<'a>) -> &'a [u8]
+    ensures { λ s. ⌜ now s ≡ take (sizeAt (now (r .entry .journal)) (r .entry .at)) (drop (r .entry .at) (now (r .entry .journal))) ⌝ }
+{
+    part_at(r.journal, r.at)
+}
+
+// The reader, so many instants further on.
+pub fn moved<'a>(r: Reader<'a>, instants: usize) -> Reader<'a>
+    ensures { λ q. ⌜ q ≡ readerAt (r .entry .journal) (placeAfter instants (now (r .entry .journal)) (r .entry .at)) ⌝ }
+{
+    let at = after(r.journal, r.at, instants);
+    Reader {
+        journal: r.journal,
+        at,
+    }
+}
+
+// The words of instant `k` of a journal; none past the last, or where the journal is against its form.
+pub fn instant(journal: &[u8], tokens: usize, k: usize) -> &[u8]
+    ensures { λ s. ⌜ now s ≡ take (sizeAt (now (journal .entry)) (placeOf tokens k (now (journal .entry)))) (drop (placeOf tokens k (now (journal .entry))) (now (journal .entry))) ⌝ }
+{
+    shown(moved(new(journal, tokens), k))
 }
 
 // Where a reader starts: at the first instant, or past the last where the journal is against its form.
