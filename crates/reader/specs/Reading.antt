@@ -6,12 +6,14 @@
 --     placeAfter     the position so many instants further on
 --     placeOf        the position of instant k
 --     readerAt       a reader of a journal at a position
+--     made           the reader that is made of a journal
+--     movedBy        the reader, moved on by so many instants
 use mathlib.Core.Bool.{true, cond}
 use mathlib.Core.List.{List}
 use Prim.Native.Nat.{ℕ, zero, suc, _+_, _*_, _%_}
 use lib.Dec.{eqb}
 use lib.ListN.{length, take, drop}
-use denote.Ref.{RefT}
+use denote.Ref.{RefT, now}
 use Rattle.words.specs.Word.{words}
 use Rattle.journal.specs.declared.Form.{Form}
 use Rattle.journal.specs.declared.Form.the-variants.{Good, Bytes, Word}
@@ -42,3 +44,9 @@ placeOf tokens k bytes = placeAfter k bytes (startOf tokens bytes)
 
 abbrev pub readerAt : RefT (List ℕ) → ℕ → Reader
 readerAt journal at = record { journal = journal; at = at }
+
+abbrev pub made : ℕ → RefT (List ℕ) → Reader
+made tokens journal = readerAt journal (startOf tokens (now journal))
+
+abbrev pub movedBy : ℕ → Reader → Reader
+movedBy n r = readerAt (r .journal) (placeAfter n (now (r .journal)) (r .at))

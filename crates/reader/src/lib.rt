@@ -1,6 +1,6 @@
 ghost use mathlib.Core.Path.{_≡_};
 ghost use lib.ListN.{take, drop};
-ghost use Rattle.reader.specs.Reading.{startOf, sizeAt, placeAfter, placeOf, readerAt};
+ghost use Rattle.reader.specs.Reading.{startOf, sizeAt, placeAfter, placeOf, made, movedBy};
 use journal::Form;
 
 // A journal, and the position of the instant that is shown next.
@@ -11,7 +11,7 @@ pub struct Reader<'a> {
 
 // A reader of a journal, of a score with so many tokens.
 pub fn new<'a>(journal: &'a [u8], tokens: usize) -> Reader<'a>
-    ensures { λ r. ⌜ r ≡ readerAt (journal .entry) (startOf tokens (now (journal .entry))) ⌝ }
+    ensures { λ r. ⌜ r ≡ made tokens (journal .entry) ⌝ }
 {
     let at = start_of(journal, tokens);
     Reader { journal, at }
@@ -26,7 +26,7 @@ pub fn shown<'a>(r: Reader<'a>) -> &'a [u8]
 
 // The reader, so many instants further on.
 pub fn moved<'a>(r: Reader<'a>, instants: usize) -> Reader<'a>
-    ensures { λ q. ⌜ q ≡ readerAt (r .entry .journal) (placeAfter instants (now (r .entry .journal)) (r .entry .at)) ⌝ }
+    ensures { λ q. ⌜ q ≡ movedBy instants (r .entry) ⌝ }
 {
     let at = after(r.journal, r.at, instants);
     Reader {
