@@ -1,0 +1,52 @@
+-- "A journal reader shows each instant's words as a part of the journal's own bytes, uncopied, and past the last instant an
+-- empty part; a journal that meets 12 or 13 is turned down so, with an empty part."
+--     startOf        where a reader starts: at the first instant, or past the last where the journal is against its form
+--     sizeAt         how many bytes it shows at a position: up to the next instant word or the end
+--     shownAt        what it shows there
+--     placeAfter     the position so many instants further on
+--     placeOf        the position of instant k
+--     readerAt       a reader of a journal at a position
+--     made           the reader that is made of a journal
+--     movedBy        the reader, moved on by so many instants
+use mathlib.Core.Bool.{true, cond}
+use mathlib.Core.List.{List}
+use Prim.Native.Nat.{ℕ, zero, suc, _+_, _*_, _%_}
+use lib.Dec.{eqb}
+use lib.ListN.{length, take, drop}
+use denote.Ref.{RefT, now}
+use Rattle.words.specs.Word.{words}
+use Rattle.journal.specs.declared.Form.{Form}
+use Rattle.journal.specs.declared.Form.the-variants.{Good, Bytes, Word}
+use Rattle.journal.specs.Form.{formOf}
+use Rattle.journal.specs.Instants.{span}
+use Rattle.reader.specs.declared.Reader.{Reader}
+
+abbrev pub startBy : Form → List ℕ → ℕ
+startBy Good bytes = 0
+startBy Bytes bytes = length bytes
+startBy (Word k) bytes = length bytes
+
+unfoldable pub startOf : ℕ → List ℕ → ℕ
+startOf tokens bytes = startBy (formOf true tokens bytes) bytes
+
+unfoldable pub sizeAt : List ℕ → ℕ → ℕ
+sizeAt bytes at = cond (eqb (at % 4) 0) (4 * span (words (drop at bytes))) 0
+
+abbrev pub shownAt : List ℕ → ℕ → List ℕ
+shownAt bytes at = take (sizeAt bytes at) (drop at bytes)
+
+unfoldable pub placeAfter : ℕ → List ℕ → ℕ → ℕ
+placeAfter zero bytes at = at
+placeAfter (suc n) bytes at = placeAfter n bytes (at + sizeAt bytes at)
+
+abbrev pub placeOf : ℕ → ℕ → List ℕ → ℕ
+placeOf tokens k bytes = placeAfter k bytes (startOf tokens bytes)
+
+abbrev pub readerAt : RefT (List ℕ) → ℕ → Reader
+readerAt journal at = record { journal = journal; at = at }
+
+abbrev pub made : ℕ → RefT (List ℕ) → Reader
+made tokens journal = readerAt journal (startOf tokens (now journal))
+
+abbrev pub movedBy : ℕ → Reader → Reader
+movedBy n r = readerAt (r .journal) (placeAfter n (now (r .journal)) (r .at))
