@@ -15,11 +15,14 @@ LIBRARY_CALLS = INSTANT
 ENGINE = linear
 standin = build/standin-$(ENGINE)
 
-.PHONY: all run test bench clean library standin
+.PHONY: all run check-example test bench clean library runner standin
 
-all: build/check
+all: runner build/check
 
-run: build/check
+run: runner
+	cd sample && ../target/bin/runner
+
+check-example: build/check
 	build/check sample/score
 
 test:
@@ -46,6 +49,9 @@ standin:
 	    -c ../../bench/baseline.c ../../bench/calls.c ../../bench/$(ENGINE).c
 	rm -f $(standin)/libscore.a
 	ar rcs $(standin)/libscore.a $(standin)/*.o
+
+runner:
+	rt check runner
 
 library:
 ifndef SCORE_LIBRARY_DIR
