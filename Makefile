@@ -20,11 +20,14 @@ VERSION = 1.0.0
 ENGINE = linear
 standin = build/standin-$(ENGINE)
 
-.PHONY: all run test bench install clean library runner standin
+.PHONY: all run check-example test bench install clean library runner standin
 
 all: library runner build/check build/console
 
-run: build/check
+run: runner
+	cd sample && ../target/bin/runner
+
+check-example: build/check
 	build/check sample/score
 
 test:
@@ -68,7 +71,5 @@ endif
 
 runner:
 ifndef SCORE_LIBRARY_DIR
-ifneq ($(wildcard crates/runner),)
 	rt check runner
-endif
 endif

@@ -2,6 +2,7 @@
 --     root-known       the root is an agent of the score
 --     started          the state as flags
 --     start-lawful     is lawful
+--     start-bytes      its bytes stand for a state that is written as the same bytes
 use mathlib.Core.Path.{_≡_, sym, ap, _∙_}
 use mathlib.Core.Bool.{Bool, true, false}
 use mathlib.Core.List.{List, [], _∷_, List·Memᴰ, List·Memᴰ·head, List·Memᴰ·not-nil}
@@ -18,7 +19,7 @@ use Rattle.store.specs.Flags.{setOf, flagsOf}
 use Rattle.store.specs.Playable.{Playable}
 use Rattle.store.proofs.Flags.{set-here, set-cases, setOf-none, flags-settled}
 use Rattle.lent.specs.States.{stateOf, asBytes, LawfulState}
-use Rattle.lent.proofs.Round.{state-round, lawful-bytes, faultless-lawful}
+use Rattle.lent.proofs.Round.{state-round, asBytes-same, lawful-bytes, faultless-lawful}
 use Rattle.instant.specs.Standing.{stateIn}
 use Rattle.history.proofs.Steps.{same-running}
 
@@ -50,3 +51,6 @@ module _ (score : List ℕ) (p : Playable score) where
 
   pub start-lawful : LawfulState (sizes score .agents) (stateOf (asBytes (startState (decode score))))
   start-lawful = faultless-lawful (sizes score .agents) (asBytes (startState (decode score))) (lawful-bytes (sizes score .agents) (sizes-few score .1) (startState (decode score)) (root-lawful (sizes score .agents) (omega arith)))
+
+  pub start-bytes : asBytes (stateOf (asBytes (startState (decode score)))) ≡ asBytes (startState (decode score))
+  start-bytes = asBytes-same _ (startState (decode score)) (state-round (startState (decode score)) (root-lawful 1024 (sizes-few score .1)))

@@ -326,6 +326,17 @@ fn start(score: &[u8], head: Sizes) -> Standing
     }
 }
 
+// Writes the start state of a score.
+pub fn write_start(score: &[u8], state: &mut [u8])
+    requires { ⌜ Playable (now score) ⌝ }
+    requires { ⌜ length (now state) ≡ 132 ⌝ }
+    ensures { λ _. ⌜ now (state .exit) ≡ asBytes (startState (decode (now (score .entry)))) ⌝ }
+{
+    let head = format::sizes_of(words::word_at(score, 0));
+    let standing = start(score, head);
+    instant::write_standing(state, head.agents, standing);
+}
+
 // Plays the instant that the words of a journal tell, and holds its words against them.
 fn check_instant(score: &[u8], head: Sizes, standing: Standing, here: &[u8]) -> Checked
     requires { ⌜ head ≡ sizes (now score) ⌝ }

@@ -1,0 +1,46 @@
+-- `write_start`: where the score stands at the start, as bytes.
+use mathlib.Core.Path.{_≡_, ap, subst⁻¹, _∙_}
+use borrow.Author.Needs.{needs}
+use Rattle.format.specs.Format.{sizesOf}
+use Rattle.format.specs.Decode.{sizes}
+use Rattle.lent.specs.States.{asBytes, LawfulState}
+use Rattle.instant.specs.Standing.{stateIn}
+use Rattle.history.proofs.Starts.{start-lawful, start-bytes}
+use Rattle.history.proofs.write_start.Statement.{statement}
+use Rattle.history.proofs.write_start.Tie as tie
+
+sizes-are : (c : tie.After-sizes-of) → c .sizes-of .result ≡ sizes (c .before .before .before .before .args .score .now)
+sizes-are c = c .sizes-of .ensures ∙ ap sizesOf (c .before .word-at .ensures)
+
+word-at-requires : tie.Need-word-at-requires
+word-at-requires c κs = search needs
+
+sizes-of-requires : tie.Need-sizes-of-requires
+sizes-of-requires c κs = search needs
+
+start-requires : tie.Need-start-requires
+start-requires c κs = (sizes-are c, c .before .before .before .before .pre .0)
+
+write-standing-requires : tie.Need-write-standing-requires
+write-standing-requires c κs =
+    let b = c .before .before .before .before .before .before in
+    (b .pre .1, subst⁻¹ (λ h. LawfulState (h .agents) (stateIn (c .before .start .result))) (sizes-are (c .before .before)) (subst⁻¹ (LawfulState (sizes (b .args .score .now) .agents)) (c .before .start .ensures) (start-lawful (b .args .score .now) (b .pre .0))))
+
+same-length : tie.Need-same-length
+same-length c = search needs
+
+returns : tie.Need-returns
+returns c =
+    let b = c .before .before .before .before .before .before .before .before .before in
+    c .before .before .write-standing .ensures ∙ ap asBytes (c .before .before .before .before .start .ensures) ∙ start-bytes (b .args .score .now) (b .pre .0)
+
+pub write-start-spec : {M : Type 1} → statement M
+write-start-spec =
+    tie.close
+    (tie.spec
+    word-at-requires
+    sizes-of-requires
+    start-requires
+    write-standing-requires
+    same-length
+    returns)
