@@ -1,12 +1,12 @@
 -- Going through a journal with a reader.
-use mathlib.Core.Path.{_≡_, refl, sym, ap, ap₂, subst, subst⁻¹, _∙_}
+use mathlib.Core.Path.{_≡_, refl, sym, ap, subst, _∙_}
 use mathlib.Core.Bool.{Bool, true, false}
-use mathlib.Core.List.{List, [], _∷_, _++_, map, flatten}
-use mathlib.Core.Logic.{_⊎_, inl, inr}
-use Prim.Native.Nat.{ℕ, zero, suc, _+_, _*_, _-_, _%_, _<_, _≤_}
+use mathlib.Core.List.{List, [], _∷_, _++_, flatten}
+use mathlib.Core.Logic.{_⊎_}
+use Prim.Native.Nat.{ℕ, zero, suc, _+_, _*_, _%_, _<_, _≤_}
 use native.Mathlib.Omega.{arith}
 use borrow.Author.Tests.{eq-eqb, ltb-true, ltb-false}
-use lib.Dec.{eqb, ltb}
+use lib.Dec.{ltb}
 use lib.ListN.{length, getD, take, drop, length-drop, drop-of-length-le, take-append-drop}
 use lib.Seq.{drop-drop}
 use denote.Ref.{RefT, now}
@@ -16,9 +16,8 @@ use Rattle.journal.specs.declared.Form.the-variants.{Good, Bytes, Word}
 use Rattle.journal.specs.Form.{isInstant, formOf}
 use Rattle.journal.specs.Instants.{instantsIn, span}
 use Rattle.journal.proofs.Parts.{instants-step, instants-end, part-starts, span-positive, starts-some, good-starts, good-four}
-use Rattle.reader.specs.Reading.{startOf, sizeAt, shownAt, placeAfter, readerAt, made, movedBy}
+use Rattle.reader.specs.Reading.{startOf, sizeAt, shownAt, placeAfter, readerAt, movedBy}
 use Rattle.reader.specs.Through.{showing, through, Along, GoesThrough, TurnedDown}
-use Rattle.reader.specs.declared.Reader.{Reader}
 use Rattle.reader.proofs.Places.{start-good, start-bytes, start-word, size-fits, size-shown, place-here}
 
 -- ---- one instant

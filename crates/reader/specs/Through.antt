@@ -1,6 +1,7 @@
 -- Going through a journal with a reader.
---     showing        what a reader shows, as the contract of `shown` says
+--     showing        what a reader shows, as the contract of `shown` says; of `movedBy k (made tokens journal)` it is what `instant` gives
 --     through        what it shows as it is moved on from instant to instant
+--     Along          a reader goes along bytes
 --     GoesThrough    a journal of good form: its instants, exactly and in order; their parts put together are the journal;
 --                    past the last an empty part
 --     TurnedDown     a journal that meets 12 or 13: an empty part, however far the reader is moved on
@@ -24,7 +25,7 @@ unfoldable pub through : ℕ → Reader → List (List ℕ)
 through zero r = []
 through (suc n) r = showing r ∷ through n (movedBy 1 r)
 
--- n instants from a reader on, which are those of the bytes, and no more
+-- n instants from a reader on are those of the bytes: each has a word, and past them nothing is shown
 pub record Along (n : ℕ) (r : Reader) (bytes : List ℕ) : Type 0 where
   pub instants : map words (through n r) ≡ instantsIn (words bytes)
   pub together : flatten (through n r) ≡ bytes

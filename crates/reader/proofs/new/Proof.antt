@@ -36,7 +36,7 @@ use denote.Exit.{yes}
 use denote.Triple.Clauses.{ensured, lasts}
 use Rattle.reader.specs.Reading.{startOf, readerAt}
 use Rattle.reader.proofs.Reader.Laws as T′
-use Rattle.reader.proofs.Held.{sliceOf, Lent, Held, twice, holds}
+use Rattle.reader.proofs.Held.{sliceOf, Lent, twice, holds}
 use Rattle.reader.proofs.start_of as start-of
 use Rattle.reader.proofs.start_of.Symbol as start-of-def
 use Rattle.reader.proofs.start_of.Symbol.{name as #start-of}
