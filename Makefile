@@ -33,8 +33,11 @@ check-example: build/check
 test:
 	.ci/run
 
-bench: build/bench
+bench: build/bench build/stack
 	build/bench sample/score
+	@echo
+	@size $(archive) | awk 'NR > 1 { print "code: " $$1 " bytes, data that changes: " $$2 + $$3 }'
+	@build/stack sample/score
 
 install: library runner
 	install -d $(DESTDIR)$(prefix)/include $(DESTDIR)$(prefix)/lib/pkgconfig
@@ -55,6 +58,10 @@ build/check build/console: library
 build/bench: library
 	mkdir -p build
 	$(CC) $(CFLAGS) bench/*.c $(archive) -o $@
+
+build/stack: library
+	mkdir -p build
+	$(CC) -Wall -Wextra -pedantic -Werror -Iinclude tests/stack.c $(archive) -o $@
 
 standin:
 	mkdir -p $(standin)

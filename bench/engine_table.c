@@ -207,7 +207,7 @@ int print_engine_table(void)
 {
     static struct lent lent;
     int kind, row, equal = 1;
-    printf("%-20s %-14s %10s %10s %10s %8s %8s\n", "ns a check, an instant", "call", "C passes", "C linear", "library",
+    printf("%-20s %-14s %10s %10s %10s %8s %8s\n", "ns a check/instant", "call", "C passes", "C linear", "library",
            "/passes", "/linear");
     for (kind = 0; kind < KINDS; kind++) {
         prepare(&lent, kinds[kind].build, kinds[kind].size);
