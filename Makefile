@@ -25,7 +25,7 @@ standin = build/standin-$(ENGINE)
 all: library runner build/check build/console
 
 run: runner
-	cd sample && ../target/bin/runner
+	cd sample && $(abspath $(RUNNER))
 
 check-example: build/check
 	build/check sample/score
