@@ -1,0 +1,465 @@
+/* fuzz.c: makes all four calls on valid, mutated and random bytes, and holds them to what every call must keep.
+ *
+ * Usage: fuzz SEED ROUNDS [FIRST]
+ * Rounds are numbered from FIRST, or from 0; the seed and a round's number settle all that happens in it. Each buffer
+ * ends at a page that cannot be read, or begins right after one, and one that the call only reads cannot be written.
+ */
+#define _GNU_SOURCE
+#include <inttypes.h>
+#include <stdio.h>
+#include <stdlib.h>
+#include <string.h>
+#include <sys/mman.h>
+#include <sys/wait.h>
+#include <unistd.h>
+
+#include "score.h"
+
+uint64_t score_run(const uint8_t *score, size_t score_len, uint8_t *state, size_t state_len, const uint8_t *inputs,
+                   size_t inputs_len, uint8_t *journal, size_t journal_len, uint8_t *scratch, size_t scratch_len);
+uint64_t score_journal_check(const uint8_t *score, size_t score_len, const uint8_t *journal, size_t journal_len,
+                             uint8_t *scratch, size_t scratch_len);
+
+enum { SCORE, STATE, INPUT, STORE, OUTPUT, SCRATCH, INPUTS, JOURNAL, BUFFERS };
+enum { CHECK, INSTANT, RUN, JOURNAL_CHECK, FUNCTIONS };
+enum { PAGE = 4096, MOST = 4 * PAGE, FILLER = 0xA5, SECONDS_A_ROUND = 60, ROUNDS_THAT_MEET_ALL = 5000 };
+
+#define BIT(number) (1u << (number))
+
+/* The buffers lent, those of them that may be written, and the numbers that may be answered: 11 never is, since every
+ * body is an agent of the score.
+ */
+static const struct {
+    const char *name;
+    unsigned lent, written, numbers;
+} functions[FUNCTIONS] = {
+    {"score_check", BIT(SCORE), 0, 0xFF},
+    {"score_instant", BIT(SCORE) | BIT(STATE) | BIT(INPUT) | BIT(STORE) | BIT(OUTPUT) | BIT(SCRATCH),
+     BIT(STATE) | BIT(STORE) | BIT(OUTPUT) | BIT(SCRATCH), 0x7FF},
+    {"score_run", BIT(SCORE) | BIT(STATE) | BIT(INPUTS) | BIT(JOURNAL) | BIT(SCRATCH),
+     BIT(STATE) | BIT(JOURNAL) | BIT(SCRATCH), 0x3FF | BIT(12) | BIT(13) | BIT(15)},
+    {"score_journal_check", BIT(SCORE) | BIT(JOURNAL) | BIT(SCRATCH), BIT(SCRATCH),
+     0x1FF | BIT(12) | BIT(13) | BIT(14)},
+};
+
+/* At most MOST bytes, and behind them space for one instant more. */
+struct bytes {
+    size_t len;
+    uint8_t at[MOST + PAGE];
+};
+
+struct lent {
+    struct bytes of[BUFFERS];
+};
+
+static uint8_t *places[BUFFERS];
+static uint64_t random_state, met[FUNCTIONS][16];
+
+static void require(int holds, const char *broken)
+{
+    if (holds)
+        return;
+    printf("%s\n", broken);
+    exit(1);
+}
+
+/* splitmix64 */
+static uint64_t random_number(void)
+{
+    uint64_t mixed = random_state += UINT64_C(0x9E3779B97F4A7C15);
+    mixed = (mixed ^ mixed >> 30) * UINT64_C(0xBF58476D1CE4E5B9);
+    mixed = (mixed ^ mixed >> 27) * UINT64_C(0x94D049BB133111EB);
+    return mixed ^ mixed >> 31;
+}
+
+static uint32_t below(size_t limit) { return (uint32_t)(random_number() % limit); }
+
+static int one_in(uint32_t times) { return below(times) == 0; }
+
+static uint32_t word_at(const struct bytes *bytes, size_t word)
+{
+    const uint8_t *byte = bytes->at + 4 * word;
+    return (uint32_t)byte[0] | (uint32_t)byte[1] << 8 | (uint32_t)byte[2] << 16 | (uint32_t)byte[3] << 24;
+}
+
+static void push(struct bytes *bytes, uint32_t word)
+{
+    int i;
+    for (i = 0; i < 4; i++)
+        bytes->at[bytes->len++] = (uint8_t)(word >> 8 * i);
+}
+
+static uint32_t tokens_of(const struct bytes *score) { return (word_at(score, 0) & 0xFF) + 1; }
+
+static uint32_t agents_of(const struct bytes *score) { return (word_at(score, 0) >> 8 & 0x3FF) + 1; }
+
+static int is_all(const uint8_t *bytes, size_t len, uint8_t value)
+{
+    return len == 0 || (*bytes == value && !memcmp(bytes, bytes + 1, len - 1));
+}
+
+static int same(const struct bytes *one, const struct bytes *other)
+{
+    return one->len == other->len && !memcmp(one->at, other->at, one->len);
+}
+
+/* Puts a buffer between filler and a page that cannot be read. At the first end, one of no bytes is lent as null. */
+static uint8_t *lend(uint8_t *place, const struct bytes *bytes, int at_end, int protection)
+{
+    uint8_t *start = at_end ? place + MOST - bytes->len : place;
+    require(!mprotect(place, MOST, PROT_READ | PROT_WRITE), "mprotect failed");
+    memset(place, FILLER, MOST);
+    memcpy(start, bytes->at, bytes->len);
+    require(!mprotect(place, MOST, protection), "mprotect failed");
+    return bytes->len == 0 && !at_end ? NULL : start;
+}
+
+static void take_back(const uint8_t *place, struct bytes *bytes, int at_end)
+{
+    size_t around = MOST - bytes->len;
+    require(is_all(at_end ? place : place + bytes->len, around, FILLER), "bytes outside a buffer were written");
+    memcpy(bytes->at, at_end ? place + around : place, bytes->len);
+}
+
+static uint64_t call_lent(int function, uint8_t **lent, const struct bytes *of)
+{
+    switch (function) {
+    case CHECK: return score_check(lent[SCORE], of[SCORE].len);
+    case INSTANT:
+        return score_instant(lent[SCORE], of[SCORE].len, lent[STATE], of[STATE].len, lent[INPUT], of[INPUT].len,
+                             lent[STORE], of[STORE].len, lent[OUTPUT], of[OUTPUT].len, lent[SCRATCH], of[SCRATCH].len);
+    case RUN:
+        return score_run(lent[SCORE], of[SCORE].len, lent[STATE], of[STATE].len, lent[INPUTS], of[INPUTS].len,
+                         lent[JOURNAL], of[JOURNAL].len, lent[SCRATCH], of[SCRATCH].len);
+    default:
+        return score_journal_check(lent[SCORE], of[SCORE].len, lent[JOURNAL], of[JOURNAL].len, lent[SCRATCH],
+                                   of[SCRATCH].len);
+    }
+}
+
+/* The answer; leaves the buffers as the call does. The bits of `ends` say at which end of its place each one lies. */
+static uint64_t call(int function, struct lent *lent, unsigned ends)
+{
+    unsigned used = functions[function].lent, written = functions[function].written, i;
+    uint8_t *pointers[BUFFERS];
+    uint64_t answer;
+    for (i = 0; i < BUFFERS; i++)
+        if (used & BIT(i))
+            pointers[i] = lend(places[i], &lent->of[i], ends >> i & 1, PROT_READ | (written & BIT(i) ? PROT_WRITE : 0));
+    answer = call_lent(function, pointers, lent->of);
+    for (i = 0; i < BUFFERS; i++)
+        if (used & BIT(i))
+            take_back(places[i], &lent->of[i], ends >> i & 1);
+    return answer;
+}
+
+static unsigned differing(const struct lent *one, const struct lent *other)
+{
+    unsigned differing = 0, i;
+    for (i = 0; i < BUFFERS; i++)
+        if (!same(&one->of[i], &other->of[i]))
+            differing |= BIT(i);
+    return differing;
+}
+
+/* The buffers that a call may change when it answers the number. */
+static unsigned changed_by(int function, uint32_t number)
+{
+    if (number == 0 || number == 15)
+        return functions[function].written;
+    return number == 14 ? BIT(SCRATCH) : 0;
+}
+
+/* Makes a call twice, on buffers that lie otherwise, and holds it to what every call must keep. */
+static uint64_t judged(int function, struct lent *lent)
+{
+    static struct lent before, again;
+    unsigned ends = below(BIT(BUFFERS)), changed;
+    uint64_t answer;
+    uint32_t number;
+    before = again = *lent;
+    answer = call(function, lent, ends);
+    require(call(function, &again, ~ends) == answer, "the same call again answers something else");
+    require(!differing(lent, &again), "the same call again leaves other bytes");
+    number = score_answer_number(answer);
+    require(number < 16 && functions[function].numbers & BIT(number), "a number that the call may not answer");
+    changed = changed_by(function, number);
+    require(!(differing(&before, lent) & ~changed), "a buffer was changed that stays as it was");
+    require(!(changed & BIT(SCRATCH)) || is_all(lent->of[SCRATCH].at, SCORE_SCRATCH_BYTES, 0), "scratch is not zero");
+    met[function][number]++;
+    return answer;
+}
+
+/* An instant. Where it is accepted, so is another one on the state that it left. */
+static uint64_t judged_instant(struct lent *lent)
+{
+    static struct lent next;
+    uint64_t answer = judged(INSTANT, lent), next_answer;
+    if (score_answer_number(answer))
+        return answer;
+    require(score_answer_status(answer) < 3, "a status that there is not");
+    require(score_answer_count(answer) <= agents_of(&lent->of[SCORE]), "more agents were reduced than there are");
+    next = *lent;
+    next_answer = judged(INSTANT, &next);
+    require(!score_answer_number(next_answer), "the state that an instant left is refused");
+    require(score_answer_status(answer) < 2 || next_answer == answer, "an aborted score plays on");
+    return answer;
+}
+
+/* Plays the list's instant that starts at a word, and appends to a journal what it must show. The word behind it. */
+static size_t play(struct lent *one, size_t at, struct bytes *journal)
+{
+    const struct bytes *list = &one->of[INPUTS];
+    uint8_t *input = one->of[INPUT].at, *output = one->of[OUTPUT].at, *status = journal->at + journal->len;
+    uint32_t token;
+    memset(input, 0, SCORE_MAP_BYTES);
+    push(journal, word_at(list, at++));
+    for (; at < list->len / 4 && word_at(list, at) >> 28 == 13; at++) {
+        token = word_at(list, at) & 0xFF;
+        input[token / 8] |= (uint8_t)BIT(token % 8);
+        push(journal, word_at(list, at));
+    }
+    *status |= (uint8_t)score_answer_status(judged_instant(one));
+    for (token = 0; token < 256; token++)
+        if (output[token / 8] & BIT(token % 8))
+            push(journal, 0xE0000000 | token);
+    return at;
+}
+
+/* A run's instants are those that are played one by one: the same state and journal, and where the run was stopped the
+ * next instant has no room. The bytes that the run wrote.
+ */
+static size_t require_run(const struct lent *before, const struct lent *after, uint64_t answer)
+{
+    static struct lent one;
+    static struct bytes journal;
+    const struct bytes *old = &before->of[JOURNAL], *new = &after->of[JOURNAL];
+    uint64_t written = score_answer_value(answer), i;
+    size_t at = 0, words = before->of[INPUTS].len / 4, len;
+    one = *before;
+    one.of[INPUT].len = one.of[STORE].len = one.of[OUTPUT].len = SCORE_MAP_BYTES;
+    journal.len = 0;
+    for (i = 0; i < written && at < words; i++)
+        at = play(&one, at, &journal);
+    len = journal.len;
+    require(i == written && (at < words) == (score_answer_number(answer) == 15), "not the list's number of instants");
+    require(same(&one.of[STATE], &after->of[STATE]), "the run leaves another state than its instants");
+    require(len <= new->len && !memcmp(journal.at, new->at, len), "the journal does not show the instants");
+    require(!memcmp(old->at + len, new->at + len, new->len - len), "the journal was written beyond the instants");
+    if (at < words)
+        play(&one, at, &journal);
+    require(at == words || journal.len > new->len, "the run stopped with room for the next instant");
+    return len;
+}
+
+static uint32_t agent_word(uint32_t agent, uint32_t tokens, uint32_t procedures, uint32_t kinds)
+{
+    uint32_t abort = 1 + (uint32_t)one_in(8), kind = agent ? below(kinds) : 1;
+    const uint32_t low[] = {abort, tokens, agent, agent, agent, agent, procedures};
+    const uint32_t high[] = {1, 1, agent, tokens, 1, tokens, 1};
+    uint32_t word = (4 + kind) << 28 | below(low[kind]);
+    return word | below(high[kind]) << 10;
+}
+
+static uint32_t rule_word(uint32_t tokens)
+{
+    uint32_t word = 0x20, i;
+    for (i = 0; i < 3; i++)
+        word = word << 8 | below(tokens);
+    return word;
+}
+
+/* A score in its form. Large ones call nothing; in small ones unguarded calls may lead back. */
+static void make_score(struct bytes *score)
+{
+    int large = one_in(12);
+    uint32_t tokens = 1 + below(large ? 256 : 8), agents = 1 + below(large ? 1024 : 20), lowest = below(tokens), i;
+    uint32_t procedures = 1 + below(large ? 64 : 3), rules = below(large ? 257 : 6);
+    score->len = 0;
+    push(score, 0x10000000 | (tokens - 1) | (agents - 1) << 8 | (procedures - 1) << 18);
+    push(score, 0xB0000000 | lowest | (lowest + below(tokens - lowest)) << 8);
+    for (i = 0; i < agents; i++)
+        push(score, agent_word(i, tokens, procedures, large ? 6 : 7));
+    for (i = 0; i < procedures; i++)
+        push(score, 0x30000000 | (agents - 1 - below((agents + 1) / 2)));
+    for (i = 0; i < rules; i++)
+        push(score, rule_word(tokens));
+}
+
+static void make_random(struct bytes *bytes, size_t len)
+{
+    size_t i;
+    for (i = 0; i < len; i++)
+        bytes->at[i] = (uint8_t)random_number();
+    bytes->len = len;
+}
+
+/* A set with some of the numbers below a limit, whose flags start at a byte. */
+static void make_set(struct bytes *set, size_t len, size_t flags, uint32_t limit)
+{
+    uint32_t times = 1 + below(8), i;
+    memset(set->at, 0, len);
+    for (i = 0; i < limit; i++)
+        set->at[flags + i / 8] |= (uint8_t)(one_in(times) << i % 8);
+    set->len = len;
+}
+
+static void make_state(struct bytes *state, const struct bytes *score, int is_start)
+{
+    uint32_t root = word_at(score, 2 + agents_of(score)) & 0x3FF;
+    make_set(state, SCORE_STATE_BYTES, 4, is_start ? 0 : agents_of(score));
+    state->at[3] = 0xF0;
+    if (is_start)
+        state->at[4 + root / 8] |= (uint8_t)BIT(root % 8);
+}
+
+static void make_list(struct bytes *list, uint32_t tokens)
+{
+    uint32_t instants = below(7), times, token;
+    list->len = 0;
+    while (instants-- > 0) {
+        push(list, 0xC0000000);
+        times = 1 + below(8);
+        for (token = 0; token < tokens; token++)
+            if (one_in(times))
+                push(list, 0xD0000000 | token);
+    }
+}
+
+static void make(struct bytes *of, int from_start)
+{
+    make_score(&of[SCORE]);
+    make_state(&of[STATE], &of[SCORE], from_start);
+    make_set(&of[INPUT], SCORE_MAP_BYTES, 0, tokens_of(&of[SCORE]));
+    make_list(&of[INPUTS], tokens_of(&of[SCORE]));
+    make_random(&of[STORE], SCORE_MAP_BYTES);
+    make_random(&of[OUTPUT], SCORE_MAP_BYTES);
+    make_random(&of[SCRATCH], SCORE_SCRATCH_BYTES);
+    make_random(&of[JOURNAL], below(one_in(4) ? MOST : 200));
+}
+
+/* From a word on, the bytes are what the other has from a word on; the other may be the same. */
+static void splice(struct bytes *bytes, const struct bytes *other)
+{
+    size_t at = 4 * below(bytes->len / 4 + 1), from = 4 * below(other->len / 4 + 1), len = other->len - from;
+    len = len < MOST - at ? len : MOST - at;
+    memmove(bytes->at + at, other->at + from, len);
+    bytes->len = at + len;
+}
+
+static void mutate(struct bytes *bytes, const struct bytes *other)
+{
+    size_t len = bytes->len;
+    switch (below(len < 4 ? 3 : 6)) {
+    case 0: make_random(bytes, below(one_in(8) ? MOST : 200)); break;
+    case 1: splice(bytes, other); break;
+    case 2: splice(bytes, bytes); break;
+    case 3: bytes->len = below(len); break;
+    case 4:
+        bytes->len = 4 * below(len / 4);
+        push(bytes, word_at(bytes, below(len / 4)) ^ below(one_in(2) ? 4 : 1024));
+        bytes->len = len;
+        break;
+    default: bytes->at[below(len)] ^= (uint8_t)BIT(below(8));
+    }
+}
+
+/* The journal check of what a run from the start state wrote, and of a mutation of it. */
+static void judge_journal(struct lent *lent, uint64_t written, const struct bytes *other)
+{
+    uint64_t answer = judged(JOURNAL_CHECK, lent);
+    require(!score_answer_number(answer), "a run's journal is refused");
+    require(score_answer_value(answer) == written, "the journal check counts other instants than the run");
+    mutate(&lent->of[JOURNAL], other);
+    (void)judged(JOURNAL_CHECK, lent);
+}
+
+/* A call turns down a score as score_check does, or not at all. */
+static void require_check(uint64_t checked, uint64_t answer)
+{
+    uint32_t number = score_answer_number(answer);
+    require(number > 0 && number < 8 ? answer == checked : !score_answer_number(checked), "score_check differs");
+}
+
+/* In half of the rounds score and state are left as they were made, so that there is a run from the start state. */
+static void play_round(void)
+{
+    static struct lent made, other, lent;
+    int from_start = one_in(2), i;
+    uint64_t checked, answer;
+    uint32_t number;
+    make(made.of, from_start);
+    make(other.of, from_start);
+    for (i = from_start ? INPUT : SCORE; i < BUFFERS; i++)
+        while (one_in(i == SCORE ? 2 : 6))
+            mutate(&made.of[i], &other.of[i]);
+    lent = made;
+    checked = judged(CHECK, &lent);
+    require_check(checked, judged_instant(&lent));
+    lent = made;
+    answer = judged(RUN, &lent);
+    require_check(checked, answer);
+    number = score_answer_number(answer);
+    if (number == 0 || number == 15) {
+        lent.of[JOURNAL].len = require_run(&made, &lent, answer);
+        if (from_start)
+            judge_journal(&lent, score_answer_value(answer), &other.of[INPUTS]);
+    }
+    lent = made;
+    if (one_in(2))
+        lent.of[JOURNAL] = made.of[INPUTS];
+    require_check(checked, judged(JOURNAL_CHECK, &lent));
+}
+
+/* Prints how often each number was met. Over many rounds, each that may be answered must be. */
+static void report(uint64_t rounds)
+{
+    int function, number;
+    for (function = 0; function < FUNCTIONS; function++) {
+        printf("%s:", functions[function].name);
+        for (number = 0; number < 16; number++) {
+            if (!(functions[function].numbers & BIT(number)))
+                continue;
+            printf(" %d: %" PRIu64, number, met[function][number]);
+            require(met[function][number] || rounds < ROUNDS_THAT_MEET_ALL, ", which is never met");
+        }
+        printf("\n");
+    }
+}
+
+static void play_rounds(uint64_t seed, uint64_t first, uint64_t rounds, uint64_t *round)
+{
+    int i;
+    for (i = 0; i < BUFFERS; i++)
+        places[i] = (uint8_t *)mmap(NULL, MOST + 2 * PAGE, PROT_NONE, MAP_PRIVATE | MAP_ANONYMOUS, -1, 0) + PAGE;
+    for (*round = first; *round < first + rounds; ++*round) {
+        random_state = seed << 40 ^ *round;
+        random_state = random_number();
+        alarm(SECONDS_A_ROUND);
+        play_round();
+    }
+    report(rounds);
+}
+
+/* The rounds are played by a child, so that the round is known also where the child is killed. */
+int main(int count, char **arguments)
+{
+    uint64_t *round = mmap(NULL, PAGE, PROT_READ | PROT_WRITE, MAP_SHARED | MAP_ANONYMOUS, -1, 0);
+    uint64_t seed, rounds, first;
+    int status = 1;
+    if (count < 3 || count > 4 || round == MAP_FAILED)
+        return 2;
+    seed = strtoull(arguments[1], NULL, 10);
+    rounds = strtoull(arguments[2], NULL, 10);
+    first = count == 4 ? strtoull(arguments[3], NULL, 10) : 0;
+    if (fork() == 0) {
+        play_rounds(seed, first, rounds, round);
+        return 0;
+    }
+    wait(&status);
+    if (status)
+        printf("failed: seed %" PRIu64 ", round %" PRIu64 "\n", seed, *round);
+    else
+        printf("fuzz: seed %" PRIu64 ", %" PRIu64 " rounds\n", seed, rounds);
+    return status != 0;
+}
