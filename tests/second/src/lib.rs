@@ -8,6 +8,7 @@ pub mod engine;
 pub mod every_order;
 pub mod generate;
 pub mod guarded;
+pub mod lawful;
 pub mod lent;
 pub mod oracle;
 pub mod random;

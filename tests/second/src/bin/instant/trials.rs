@@ -10,7 +10,7 @@ use second::lent::*;
 use second::random::Random;
 use second::sequence::Sequence;
 use second::tests::{ensure, same_call, shown, Met, Outcome};
-use second::{every_order, scenes, words};
+use second::{every_order, lawful, scenes, words};
 use std::collections::HashSet;
 
 /// Holds the library to the second engine, between three kinds of guards.
@@ -29,34 +29,21 @@ fn judge_at_any_offset(met: &mut Met, lent: &InstantLent, random: &mut Random) -
     judge(met, lent, random, offset).map(|_| ())
 }
 
-/// Buffers of the right lengths, the written ones dirty.
-fn lawful(random: &mut Random, score: Vec<u8>) -> InstantLent {
-    let decoded = Decoded::new(&score);
-    InstantLent {
-        state: scenes::lawful_state(random, &decoded),
-        input: scenes::lawful_input(random, &decoded),
-        store: scenes::dirt(random, MAP_BYTES),
-        output: scenes::dirt(random, MAP_BYTES),
-        scratch: scenes::dirt(random, SCRATCH_BYTES),
-        score,
-    }
-}
-
 pub fn any_scores(met: &mut Met, random: &mut Random, _: u64) -> Outcome {
     let score = scenes::score(random);
-    let lent = lawful(random, score);
+    let lent = lawful::instant(random, score);
     judge_at_any_offset(met, &lent, random)
 }
 
 pub fn large_scores(met: &mut Met, random: &mut Random, _: u64) -> Outcome {
     let score = scenes::large_score(random);
-    let lent = lawful(random, score);
+    let lent = lawful::instant(random, score);
     judge_at_any_offset(met, &lent, random)
 }
 
 pub fn special_scores(met: &mut Met, random: &mut Random, _: u64) -> Outcome {
     let score = scenes::special_score(random);
-    let lent = lawful(random, score);
+    let lent = lawful::instant(random, score);
     judge_at_any_offset(met, &lent, random)
 }
 
@@ -73,7 +60,7 @@ fn resize_one(random: &mut Random, lent: &mut InstantLent) {
 /// Buffers of another length.
 pub fn other_lengths(met: &mut Met, random: &mut Random, _: u64) -> Outcome {
     let score = scenes::small_score(random);
-    let mut lent = lawful(random, score);
+    let mut lent = lawful::instant(random, score);
     for _ in 0..random.pick(&[1, 1, 1, 2]) {
         resize_one(random, &mut lent);
     }
@@ -83,7 +70,7 @@ pub fn other_lengths(met: &mut Met, random: &mut Random, _: u64) -> Outcome {
 /// Wrong states, beside lawful and unlawful inputs.
 pub fn unlawful_states(met: &mut Met, random: &mut Random, _: u64) -> Outcome {
     let score = scenes::score(random);
-    let mut lent = lawful(random, score);
+    let mut lent = lawful::instant(random, score);
     let decoded = Decoded::new(&lent.score);
     lent.state = scenes::unlawful_state(random, &decoded);
     if random.one_in(4) {
@@ -95,14 +82,14 @@ pub fn unlawful_states(met: &mut Met, random: &mut Random, _: u64) -> Outcome {
 /// Inputs with unknown tokens, in running and aborted states.
 pub fn unlawful_inputs(met: &mut Met, random: &mut Random, _: u64) -> Outcome {
     let score = scenes::score(random);
-    let mut lent = lawful(random, score);
+    let mut lent = lawful::instant(random, score);
     lent.input = scenes::unlawful_input(random, &Decoded::new(&lent.score));
     judge_at_any_offset(met, &lent, random)
 }
 
 pub fn aborted_states(met: &mut Met, random: &mut Random, _: u64) -> Outcome {
     let score = scenes::score(random);
-    let mut lent = lawful(random, score);
+    let mut lent = lawful::instant(random, score);
     lent.state = State::Aborted.bytes();
     judge_at_any_offset(met, &lent, random)
 }
@@ -110,7 +97,7 @@ pub fn aborted_states(met: &mut Met, random: &mut Random, _: u64) -> Outcome {
 /// Damaged scores, at times with all else wrong too.
 pub fn damaged_scores(met: &mut Met, random: &mut Random, _: u64) -> Outcome {
     let score = scenes::small_score(random);
-    let mut lent = lawful(random, score);
+    let mut lent = lawful::instant(random, score);
     if random.one_in(4) {
         lent.state = scenes::unlawful_state(random, &Decoded::new(&lent.score));
     }
@@ -140,7 +127,7 @@ pub fn checked_scores(met: &mut Met, random: &mut Random, index: u64) -> Outcome
 /// Any mixture of what may be wrong.
 pub fn several_faults(met: &mut Met, random: &mut Random, _: u64) -> Outcome {
     let score = scenes::small_score(random);
-    let mut lent = lawful(random, score);
+    let mut lent = lawful::instant(random, score);
     let decoded = Decoded::new(&lent.score);
     if random.one_in(2) {
         lent.state = scenes::unlawful_state(random, &decoded);
@@ -167,7 +154,7 @@ pub fn full_scores(met: &mut Met, random: &mut Random, index: u64) -> Outcome {
         rules: (0..256).map(|_| second::generate::rule(random, 256)).collect(),
         agents,
     };
-    let mut lent = lawful(random, score.bytes());
+    let mut lent = lawful::instant(random, score.bytes());
     if index.is_multiple_of(2) {
         lent.input = scenes::dirt(random, MAP_BYTES);
         lent.state[4..].copy_from_slice(&scenes::dirt(random, STATE_BYTES - 4));
@@ -199,7 +186,7 @@ fn bits(number: u64) -> Vec<usize> {
 pub fn every_kind(met: &mut Met, random: &mut Random, index: u64) -> Outcome {
     let score = second::generate::every_kind();
     let states = 1 << score.agents.len();
-    let mut lent = lawful(random, score.bytes());
+    let mut lent = lawful::instant(random, score.bytes());
     lent.state = state_bytes(RUNNING, bits(index % states));
     lent.input = map_bytes(&bits(index / states % (1 << score.tokens)));
     judge_at_any_offset(met, &lent, random)
@@ -209,7 +196,7 @@ pub fn every_kind(met: &mut Met, random: &mut Random, index: u64) -> Outcome {
 pub fn every_state_and_input(met: &mut Met, random: &mut Random, _: u64) -> Outcome {
     let score = scenes::least_score(random);
     let decoded = Decoded::new(&score);
-    let mut lent = lawful(random, score);
+    let mut lent = lawful::instant(random, score);
     for state in 0..1 << decoded.agents.len() {
         for input in 0..1 << decoded.tokens {
             lent.state = state_bytes(RUNNING, bits(state));
@@ -228,7 +215,7 @@ pub fn sequences(met: &mut Met, random: &mut Random, _: u64) -> Outcome {
     let mut sequence = Sequence::start(&decoded, &awake, random);
     let mut state = state_bytes(RUNNING, awake);
     for _ in 0..random.between(2, 12) {
-        let mut lent = lawful(random, score.clone());
+        let mut lent = lawful::instant(random, score.clone());
         lent.state = state;
         if random.one_in(5) {
             refused_between(met, random, &lent)?;
@@ -286,7 +273,7 @@ pub fn every_order(met: &mut Met, random: &mut Random, _: u64) -> Outcome {
 }
 
 fn running(random: &mut Random, score: &[u8], decoded: &Decoded) -> InstantLent {
-    let mut lent = lawful(random, score.to_vec());
+    let mut lent = lawful::instant(random, score.to_vec());
     lent.state = state_bytes(RUNNING, scenes::agents(random, decoded));
     lent
 }
@@ -332,7 +319,7 @@ pub fn input_on_score(met: &mut Met, random: &mut Random, _: u64) -> Outcome {
         return Ok(());
     }
     let input_at = random.below((score.len() - MAP_BYTES) as u32 + 1) as usize;
-    let mut lent = lawful(random, score);
+    let mut lent = lawful::instant(random, score);
     lent.input = lent.score[input_at..][..MAP_BYTES].to_vec();
     let expected = instant_call(&lent, random);
     let got = overlap::instant_on_score(&lent, input_at);

@@ -10,9 +10,9 @@ use second::engine::End;
 use second::guarded::GUARDS;
 use second::lent::*;
 use second::random::Random;
-use second::scenes;
 use second::sequence::Sequence;
 use second::tests::{ensure, shown, Met, Outcome};
+use second::{lawful, scenes};
 
 /// The state after each call is what the orders of its instants leave awake.
 pub fn any_calls(met: &mut Met, random: &mut Random, _: u64) -> Outcome {
@@ -38,15 +38,7 @@ fn one_instant(
     state: Vec<u8>,
     sequence: &mut Sequence,
 ) -> Result<Vec<u8>, String> {
-    let decoded = Decoded::new(score);
-    let lent = InstantLent {
-        score: score.to_vec(),
-        state,
-        input: scenes::lawful_input(random, &decoded),
-        store: scenes::dirt(random, MAP_BYTES),
-        output: scenes::dirt(random, MAP_BYTES),
-        scratch: scenes::dirt(random, SCRATCH_BYTES),
-    };
+    let lent = InstantLent { state, ..lawful::instant(random, score.to_vec()) };
     let expected = instant_call(&lent, random);
     let got = instant::instant(&lent, random.below(8) as usize, random.pick(&GUARDS))?;
     met.count("instant", got.0);

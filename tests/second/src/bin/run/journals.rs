@@ -1,7 +1,7 @@
 //! Generated journals and their checks.
 
 use crate::judge::{self, known};
-use crate::runs::{self, damage_words, written};
+use crate::runs::{damage_words, written};
 use second::answer::{refused, Answer};
 use second::calls::{journal, JournalCheckLent};
 use second::decoded::Decoded;
@@ -9,7 +9,7 @@ use second::lent::*;
 use second::random::Random;
 use second::tests::{Met, Outcome};
 use second::words::to_bytes;
-use second::{oracle, scenes};
+use second::{lawful, oracle, scenes};
 
 fn lent(random: &mut Random, score: Vec<u8>, journal: Vec<u8>) -> JournalCheckLent {
     JournalCheckLent { score, journal, scratch: scenes::dirt(random, SCRATCH_BYTES) }
@@ -187,7 +187,7 @@ pub fn damaged(met: &mut Met, random: &mut Random, _: u64) -> Outcome {
 /// The journal of a run from any state, which may be the start state.
 pub fn of_another_start(met: &mut Met, random: &mut Random, _: u64) -> Outcome {
     let score = scenes::small_score(random);
-    let mut run = runs::lawful(random, score, 6);
+    let mut run = lawful::run(random, score, 6);
     run.journal.fill(0);
     let (_, after) = judge::run(met, random, &run)?;
     let lent = lent(random, run.score, written(&after.journal).to_vec());

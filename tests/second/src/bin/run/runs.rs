@@ -7,31 +7,16 @@ use second::decoded::Decoded;
 use second::lent::*;
 use second::random::Random;
 use second::tests::{ensure, Met, Outcome};
-use second::{oracle, scenes, words};
-
-/// A run of at most so many instants, with room enough in the journal.
-pub fn lawful(random: &mut Random, score: Vec<u8>, most_instants: u32) -> RunLent {
-    let decoded = Decoded::new(&score);
-    let inputs = scenes::list(random, &decoded, most_instants);
-    let instants = self::instants(&inputs).len();
-    let room = inputs.len() + instants * 4 * decoded.ports.clone().count() + random.below(9) as usize;
-    RunLent {
-        state: scenes::lawful_state(random, &decoded),
-        inputs,
-        journal: scenes::dirt(random, room),
-        scratch: scenes::dirt(random, SCRATCH_BYTES),
-        score,
-    }
-}
+use second::{lawful, oracle, scenes, words};
 
 fn any_lawful(random: &mut Random, most_instants: u32) -> RunLent {
     let score = scenes::score(random);
-    lawful(random, score, most_instants)
+    lawful::run(random, score, most_instants)
 }
 
 fn small_lawful(random: &mut Random, most_instants: u32) -> RunLent {
     let score = scenes::small_score(random);
-    lawful(random, score, most_instants)
+    lawful::run(random, score, most_instants)
 }
 
 /// With room enough every list is run to its end.
@@ -43,7 +28,7 @@ pub fn accepted(met: &mut Met, random: &mut Random, _: u64) -> Outcome {
 
 pub fn of_special_scores(met: &mut Met, random: &mut Random, _: u64) -> Outcome {
     let score = scenes::special_score(random);
-    let lent = lawful(random, score, 4);
+    let lent = lawful::run(random, score, 4);
     judge::run(met, random, &lent).map(|_| ())
 }
 
