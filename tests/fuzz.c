@@ -15,16 +15,12 @@
 
 #include "score.h"
 
-uint64_t score_run(const uint8_t *score, size_t score_len, uint8_t *state, size_t state_len, const uint8_t *inputs,
-                   size_t inputs_len, uint8_t *journal, size_t journal_len, uint8_t *scratch, size_t scratch_len);
-uint64_t score_journal_check(const uint8_t *score, size_t score_len, const uint8_t *journal, size_t journal_len,
-                             uint8_t *scratch, size_t scratch_len);
-
 enum { SCORE, STATE, INPUT, STORE, OUTPUT, SCRATCH, INPUTS, JOURNAL, BUFFERS };
 enum { CHECK, INSTANT, RUN, JOURNAL_CHECK, FUNCTIONS };
 enum { PAGE = 4096, MOST = 4 * PAGE, FILLER = 0xA5, SECONDS_A_ROUND = 60, ROUNDS_THAT_MEET_ALL = 5000 };
 
 #define BIT(number) (1u << (number))
+#define UP_TO(number) (2 * BIT(number) - 1)
 
 /* The buffers lent, those of them that may be written, and the numbers that may be answered: 11 never is, since every
  * body is an agent of the score.
@@ -33,13 +29,14 @@ static const struct {
     const char *name;
     unsigned lent, written, numbers;
 } functions[FUNCTIONS] = {
-    {"score_check", BIT(SCORE), 0, 0xFF},
+    {"score_check", BIT(SCORE), 0, UP_TO(SCORE_CIRCLE)},
     {"score_instant", BIT(SCORE) | BIT(STATE) | BIT(INPUT) | BIT(STORE) | BIT(OUTPUT) | BIT(SCRATCH),
-     BIT(STATE) | BIT(STORE) | BIT(OUTPUT) | BIT(SCRATCH), 0x7FF},
+     BIT(STATE) | BIT(STORE) | BIT(OUTPUT) | BIT(SCRATCH), UP_TO(SCORE_INPUT)},
     {"score_run", BIT(SCORE) | BIT(STATE) | BIT(INPUTS) | BIT(JOURNAL) | BIT(SCRATCH),
-     BIT(STATE) | BIT(JOURNAL) | BIT(SCRATCH), 0x3FF | BIT(12) | BIT(13) | BIT(15)},
+     BIT(STATE) | BIT(JOURNAL) | BIT(SCRATCH),
+     UP_TO(SCORE_STATE) | BIT(SCORE_LIST_LENGTH) | BIT(SCORE_LIST_FORM) | BIT(SCORE_ROOM)},
     {"score_journal_check", BIT(SCORE) | BIT(JOURNAL) | BIT(SCRATCH), BIT(SCRATCH),
-     0x1FF | BIT(12) | BIT(13) | BIT(14)},
+     UP_TO(SCORE_BUFFER) | BIT(SCORE_LIST_LENGTH) | BIT(SCORE_LIST_FORM) | BIT(SCORE_JOURNAL)},
 };
 
 /* At most MOST bytes, and behind them space for one instant more. */
@@ -165,9 +162,9 @@ static unsigned differing(const struct lent *one, const struct lent *other)
 /* The buffers that a call may change when it answers the number. */
 static unsigned changed_by(int function, uint32_t number)
 {
-    if (number == 0 || number == 15)
+    if (number == SCORE_ACCEPTED || number == SCORE_ROOM)
         return functions[function].written;
-    return number == 14 ? BIT(SCRATCH) : 0;
+    return number == SCORE_JOURNAL ? BIT(SCRATCH) : 0;
 }
 
 /* Makes a call twice, on buffers that lie otherwise, and holds it to what every call must keep. */
@@ -197,12 +194,12 @@ static uint64_t judged_instant(struct lent *lent)
     uint64_t answer = judged(INSTANT, lent), next_answer;
     if (score_answer_number(answer))
         return answer;
-    require(score_answer_status(answer) < 3, "a status that there is not");
+    require(score_answer_status(answer) <= SCORE_ABORTED, "a status that there is not");
     require(score_answer_count(answer) <= agents_of(&lent->of[SCORE]), "more agents were reduced than there are");
     next = *lent;
     next_answer = judged(INSTANT, &next);
     require(!score_answer_number(next_answer), "the state that an instant left is refused");
-    require(score_answer_status(answer) < 2 || next_answer == answer, "an aborted score plays on");
+    require(score_answer_status(answer) != SCORE_ABORTED || next_answer == answer, "an aborted score plays on");
     return answer;
 }
 
@@ -214,15 +211,15 @@ static size_t play(struct lent *one, size_t at, struct bytes *journal)
     uint32_t token;
     memset(input, 0, SCORE_MAP_BYTES);
     push(journal, word_at(list, at++));
-    for (; at < list->len / 4 && word_at(list, at) >> 28 == 13; at++) {
-        token = word_at(list, at) & 0xFF;
+    for (; at < list->len / 4 && word_at(list, at) >= SCORE_INPUT_WORD; at++) {
+        token = word_at(list, at) & SCORE_TOKEN_MASK;
         input[token / 8] |= (uint8_t)BIT(token % 8);
         push(journal, word_at(list, at));
     }
     *status |= (uint8_t)score_answer_status(judged_instant(one));
     for (token = 0; token < 256; token++)
         if (output[token / 8] & BIT(token % 8))
-            push(journal, 0xE0000000 | token);
+            push(journal, SCORE_OUTPUT_WORD | token);
     return at;
 }
 
@@ -242,7 +239,7 @@ static size_t require_run(const struct lent *before, const struct lent *after, u
     for (i = 0; i < written && at < words; i++)
         at = play(&one, at, &journal);
     len = journal.len;
-    require(i == written && (at < words) == (score_answer_number(answer) == 15), "not the list's number of instants");
+    require(i == written && (at < words) == (score_answer_number(answer) == SCORE_ROOM), "not the list's instants");
     require(same(&one.of[STATE], &after->of[STATE]), "the run leaves another state than its instants");
     require(len <= new->len && !memcmp(journal.at, new->at, len), "the journal does not show the instants");
     require(!memcmp(old->at + len, new->at + len, new->len - len), "the journal was written beyond the instants");
@@ -318,11 +315,11 @@ static void make_list(struct bytes *list, uint32_t tokens)
     uint32_t instants = below(7), times, token;
     list->len = 0;
     while (instants-- > 0) {
-        push(list, 0xC0000000);
+        push(list, SCORE_INSTANT_WORD);
         times = 1 + below(8);
         for (token = 0; token < tokens; token++)
             if (one_in(times))
-                push(list, 0xD0000000 | token);
+                push(list, SCORE_INPUT_WORD | token);
     }
 }
 
@@ -349,18 +346,19 @@ static void splice(struct bytes *bytes, const struct bytes *other)
 
 static void mutate(struct bytes *bytes, const struct bytes *other)
 {
-    size_t len = bytes->len;
+    size_t len = bytes->len, at = below(len + 1);
+    uint32_t change = below(one_in(2) ? 4 : 1024);
     switch (below(len < 4 ? 3 : 6)) {
     case 0: make_random(bytes, below(one_in(8) ? MOST : 200)); break;
     case 1: splice(bytes, other); break;
     case 2: splice(bytes, bytes); break;
-    case 3: bytes->len = below(len); break;
+    case 3: bytes->len = at; break;
     case 4:
-        bytes->len = 4 * below(len / 4);
-        push(bytes, word_at(bytes, below(len / 4)) ^ below(one_in(2) ? 4 : 1024));
+        bytes->len = at / 4 * 4;
+        push(bytes, word_at(bytes, below(len / 4)) ^ change);
         bytes->len = len;
         break;
-    default: bytes->at[below(len)] ^= (uint8_t)BIT(below(8));
+    default: bytes->at[at] ^= (uint8_t)BIT(change % 8);
     }
 }
 
@@ -378,7 +376,8 @@ static void judge_journal(struct lent *lent, uint64_t written, const struct byte
 static void require_check(uint64_t checked, uint64_t answer)
 {
     uint32_t number = score_answer_number(answer);
-    require(number > 0 && number < 8 ? answer == checked : !score_answer_number(checked), "score_check differs");
+    int is_of_score = number > SCORE_ACCEPTED && number < SCORE_BUFFER;
+    require(is_of_score ? answer == checked : !score_answer_number(checked), "score_check answers otherwise");
 }
 
 /* In half of the rounds score and state are left as they were made, so that there is a run from the start state. */
@@ -400,7 +399,7 @@ static void play_round(void)
     answer = judged(RUN, &lent);
     require_check(checked, answer);
     number = score_answer_number(answer);
-    if (number == 0 || number == 15) {
+    if (number == SCORE_ACCEPTED || number == SCORE_ROOM) {
         lent.of[JOURNAL].len = require_run(&made, &lent, answer);
         if (from_start)
             judge_journal(&lent, score_answer_value(answer), &other.of[INPUTS]);
