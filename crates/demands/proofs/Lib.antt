@@ -15,7 +15,7 @@ pub mod Operational
 pub mod Corollaries
 pub mod NotEmpty
 pub mod NoEleven
-pub mod Consequences
+pub mod Implied
 pub mod JournalChecks
 pub mod JournalRuns
 pub mod JournalExact
