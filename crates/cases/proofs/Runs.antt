@@ -12,26 +12,23 @@ use lib.ListN.{length}
 use Rattle.tcc.specs.Score.{Score}
 use Rattle.tcc.specs.Lawful.{Lawful}
 use Rattle.tcc.specs.Instant.{State, answer, after}
-use Rattle.tcc.proofs.Sets.{Within, same-refl}
+use Rattle.tcc.proofs.Sets.{Within}
 use Rattle.format.specs.Decode.{sizes, decode}
 use Rattle.format.proofs.Decode.{decode-agents, decode-tokens, sizes-few}
 use Rattle.scorefile.specs.Check.{numberOf, verdict}
 use Rattle.scorefile.proofs.Accepted.{accepted-only}
 use Rattle.scorefile.proofs.Lawful.{accepted-lawful, accepted-faultless}
-use Rattle.lent.specs.States.{stateOf, asBytes, LawfulState}
-use Rattle.lent.proofs.Round.{asBytes-same, asBytes-length, lawful-bytes}
-use Rattle.lent.proofs.SameState.{answer-same, after-same}
-use Rattle.instant.proofs.Written.{answer-inside, after-lawful}
+use Rattle.lent.specs.States.{asBytes, LawfulState}
+use Rattle.lent.proofs.Round.{asBytes-length, lawful-bytes}
 use Rattle.journal.specs.declared.Form.the-variants.{Good}
 use Rattle.journal.specs.Form.{formOf}
 use Rattle.journal.specs.Instants.{inputLists}
 use Rattle.journal.specs.History.{entry, Rising}
 use Rattle.journal.proofs.Forms.{good-inputs}
-use Rattle.journal.proofs.Rising.{rising-below}
 use Rattle.history.specs.declared.Stop.the-variants.{Not, Room}
-use Rattle.history.specs.Run.{answerIn, stopAt, Ran, stopped, unlessStopped, runFrom}
+use Rattle.history.specs.Run.{stopAt, Ran, stopped, unlessStopped, runFrom}
 use Rattle.history.specs.RunCall.{lent, ended, exit}
-use Rattle.history.proofs.Exact.{Stands, written-stands, instant-entry, instant-lawful}
+use Rattle.history.proofs.Exact.{written-stands, instant-entry, after-bytes, next-lawful, instant-lawful}
 
 unfoldable pub playOn : Score → State → ℕ → List (List ℕ) → Ran
 playOn sc st room [] = stopped (asBytes st) Not
@@ -47,20 +44,6 @@ module _ (score : List ℕ) (accepted : numberOf (verdict score) ≡ 0) where
   counted : length (decode score .agents) ≡ sizes score .agents
   counted = let f = accepted-faultless score (accepted-only (verdict score) accepted) in decode-agents score (omega (arith, f .enough))
 
-  module _ (st : State) (lawful : LawfulState (length (decode score .agents)) st) (inputs : List ℕ) where
-    stands : Stands score law counted (asBytes st) st
-    stands = written-stands score law counted st lawful
-
-    after-bytes : asBytes (after (answerIn score (asBytes st) inputs)) ≡ asBytes (after (answer (decode score) st inputs))
-    unfolding answerIn
-    after-bytes =
-        let a = answer (decode score) (stateOf (asBytes st)) inputs in
-        let b = answer (decode score) st inputs in
-        asBytes-same (after a) (after b) (after-same a b (answer-same (decode score) (stateOf (asBytes st)) st (stands .same) (same-refl inputs)))
-
-    next-lawful : Rising (decode score .tokens) inputs → LawfulState (length (decode score .agents)) (after (answer (decode score) st inputs))
-    next-lawful rising = after-lawful (decode score) (answer (decode score) st inputs) (length (decode score .agents)) (omega arith) (answer-inside (decode score) st inputs law lawful (rising-below rising))
-
   pub run-plays : (lists : List (List ℕ)) → Within (Rising (decode score .tokens)) lists → (st : State) → LawfulState (length (decode score .agents)) st → (room : ℕ) →
       runFrom score (asBytes st) room lists ≡ playOn (decode score) st room lists
   unfolding runFrom stopAt playOn
@@ -68,9 +51,9 @@ module _ (score : List ℕ) (accepted : numberOf (verdict score) ≡ 0) where
   run-plays (inputs ∷ more) rising st lawful room =
       let h = rising inputs (List·Memᴰ·head refl) in
       let b = answer (decode score) st inputs in
-      let s = stands st lawful inputs in
-      let rest = run-plays more (λ l m. rising l (List·Memᴰ·tail m)) (after b) (next-lawful st lawful inputs h) (room - 4 * length (entry (decode score) inputs b)) in
-      rw (instant-lawful score law counted s inputs h, instant-entry score law counted s inputs, after-bytes st lawful inputs, rest)
+      let s = written-stands score law counted st lawful in
+      let rest = run-plays more (λ l m. rising l (List·Memᴰ·tail m)) (after b) (next-lawful score law counted s inputs h) (room - 4 * length (entry (decode score) inputs b)) in
+      rw (instant-lawful score law counted s inputs h, instant-entry score law counted s inputs, after-bytes score law counted s inputs, rest)
 
   pub exit-plays : (inputs journal scratch : List ℕ) (st : State) → LawfulState (sizes score .agents) st → length scratch ≡ 2048 → formOf false (sizes score .tokens) inputs ≡ Good →
       exit score inputs (lent (asBytes st) journal scratch) ≡ ended journal (playOn (decode score) st (length journal) (inputLists inputs))

@@ -3,6 +3,8 @@
 --     Stands             bytes stand for a lawful state, copies aside
 --     written-stands     so do the bytes written for one
 --     instant-entry      an instant from such bytes has the words of the instant from the state
+--     after-bytes        and leaves its bytes
+--     next-lawful        the state after it is lawful
 --     instant-stands     the bytes after it stand for the state after it
 --     instant-lawful     and have no fault
 --     run-history        a run writes the history of the instants that it writes
@@ -67,11 +69,11 @@ module _ (score : List ℕ) (law : Lawful (decode score)) (counted : length (dec
     pub instant-entry : entry (decode score) inputs (answerIn score state inputs) ≡ entry (decode score) inputs (answer (decode score) st inputs)
     instant-entry = entry-same (decode score) inputs instant-same
 
-    after-bytes : asBytes (after (answerIn score state inputs)) ≡ asBytes (after (answer (decode score) st inputs))
+    pub after-bytes : asBytes (after (answerIn score state inputs)) ≡ asBytes (after (answer (decode score) st inputs))
     after-bytes = let s = answerIn score state inputs in let t = answer (decode score) st inputs in asBytes-same (after s) (after t) (after-same s t instant-same)
 
     module _ (rising : Rising (decode score .tokens) inputs) where
-      next-lawful : LawfulState (length (decode score .agents)) (after (answer (decode score) st inputs))
+      pub next-lawful : LawfulState (length (decode score .agents)) (after (answer (decode score) st inputs))
       next-lawful = after-lawful (decode score) (answer (decode score) st inputs) (length (decode score .agents)) (omega arith) (answer-inside (decode score) st inputs law (stands .lawful) (rising-below rising))
 
       pub instant-stands : Stands (asBytes (after (answerIn score state inputs))) (after (answer (decode score) st inputs))

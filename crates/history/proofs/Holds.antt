@@ -10,7 +10,7 @@ use lib.Dec.{eqb, leb}
 use lib.ListN.{length, getD}
 use Rattle.tcc.specs.Sets.{any}
 use Rattle.tcc.specs.Score.{Score}
-use Rattle.tcc.specs.Instant.{State, running, Answer, output, answer, after}
+use Rattle.tcc.specs.Instant.{State, Answer, output, answer, after}
 use Rattle.format.specs.Decode.{sizes, decode}
 use Rattle.format.proofs.Decode.{decode-agents, sizes-few}
 use Rattle.store.specs.Flags.{setOf, flagsOf}
