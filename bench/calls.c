@@ -6,8 +6,6 @@
 #include "baseline.h"
 #include "score.h"
 
-enum { STATE_LEN = 132, MAP_LEN = 32, SCRATCH_LEN = 2048 };
-
 enum { LENT_LENGTH = 8, LENT_STATE = 9, LENT_INPUT = 10, KEPT_LENGTH = 12 };
 
 /* The numbers 13, 14 and 15 are laid out by their own. */
@@ -86,7 +84,7 @@ static void read_map(struct tokens *tokens, const uint8_t *bytes)
 static void write_map(uint8_t *bytes, const struct tokens *tokens)
 {
     uint32_t i;
-    for (i = 0; i < MAP_LEN; i++)
+    for (i = 0; i < SCORE_MAP_BYTES; i++)
         bytes[i] = (uint8_t)(tokens->words[i / 8] >> 8 * (i % 8));
 }
 
@@ -143,8 +141,8 @@ uint64_t call_instant(const struct engine *engine, const uint8_t *score_bytes, s
     struct end end;
     if (fault)
         return fault;
-    if (state_len != STATE_LEN || input_len != MAP_LEN || store_len != MAP_LEN || output_len != MAP_LEN
-        || scratch_len != SCRATCH_LEN)
+    if (state_len != SCORE_STATE_BYTES || input_len != SCORE_MAP_BYTES || store_len != SCORE_MAP_BYTES
+        || output_len != SCORE_MAP_BYTES || scratch_len != SCORE_SCRATCH_BYTES)
         return refusal(LENT_LENGTH);
     take_apart(&score, score_bytes, score_len);
     if (!read_state(&state, &score, state_bytes))
@@ -158,7 +156,7 @@ uint64_t call_instant(const struct engine *engine, const uint8_t *score_bytes, s
     write_state(state_bytes, &state);
     write_map(store_bytes, &end.store);
     write_map(output_bytes, &output);
-    memset(scratch, 0, SCRATCH_LEN);
+    memset(scratch, 0, SCORE_SCRATCH_BYTES);
     return UINT64_C(1) << 61 | (uint64_t)end.status << 32 | (uint64_t)end.count << 34;
 }
 
@@ -280,7 +278,7 @@ uint64_t call_run(const struct engine *engine, const uint8_t *score_bytes, size_
     struct room room;
     if (answer)
         return answer;
-    if (state_len != STATE_LEN || scratch_len != SCRATCH_LEN)
+    if (state_len != SCORE_STATE_BYTES || scratch_len != SCORE_SCRATCH_BYTES)
         return refusal(LENT_LENGTH);
     take_apart(&score, score_bytes, score_len);
     if (!read_state(&state, &score, state_bytes))
@@ -292,7 +290,7 @@ uint64_t call_run(const struct engine *engine, const uint8_t *score_bytes, size_
     room.left = journal_len;
     answer = run_list(engine, &score, &state, inputs, inputs_len / 4, room);
     write_state(state_bytes, &state);
-    memset(scratch, 0, SCRATCH_LEN);
+    memset(scratch, 0, SCORE_SCRATCH_BYTES);
     return answer;
 }
 
@@ -347,13 +345,13 @@ uint64_t call_journal_check(const struct engine *engine, const uint8_t *score_by
     struct score score;
     if (answer)
         return answer;
-    if (scratch_len != SCRATCH_LEN)
+    if (scratch_len != SCORE_SCRATCH_BYTES)
         return refusal(LENT_LENGTH);
     take_apart(&score, score_bytes, score_len);
     answer = kept_fault(journal, journal_len, ABORTED, score.tokens);
     if (answer)
         return answer;
     answer = compare_journal(engine, &score, journal, journal_len / 4);
-    memset(scratch, 0, SCRATCH_LEN);
+    memset(scratch, 0, SCORE_SCRATCH_BYTES);
     return answer;
 }

@@ -12,7 +12,7 @@
 #include "tables.h"
 #include "timing.h"
 
-enum { INSTANTS = 1000, STATE_LEN = 132, MAP_LEN = 32, SCRATCH_LEN = 2048, INSTANT_LEN_MAX = 4 * 513, REPETITIONS = 11 };
+enum { INSTANTS = 1000, INSTANT_LEN_MAX = 4 * 513, REPETITIONS = 11 };
 
 static const double REPETITION_NS = 2e6;
 
@@ -35,7 +35,8 @@ enum { ENGINES = sizeof engines / sizeof *engines };
 /* What is lent, and what it holds after a call. */
 struct lent {
     struct score_bytes score;
-    uint8_t start[STATE_LEN], state[STATE_LEN], input[MAP_LEN], store[MAP_LEN], output[MAP_LEN], scratch[SCRATCH_LEN];
+    uint8_t start[SCORE_STATE_BYTES], state[SCORE_STATE_BYTES], input[SCORE_MAP_BYTES], store[SCORE_MAP_BYTES],
+        output[SCORE_MAP_BYTES], scratch[SCORE_SCRATCH_BYTES];
     uint8_t inputs[INSTANTS * INSTANT_LEN_MAX], journal[INSTANTS * INSTANT_LEN_MAX];
     size_t inputs_len, journal_len;
 };
@@ -47,22 +48,23 @@ static uint64_t one_check(const struct calls *calls, struct lent *lent)
 
 static uint64_t one_instant(const struct calls *calls, struct lent *lent)
 {
-    memcpy(lent->state, lent->start, STATE_LEN);
-    return calls->instant(lent->score.bytes, lent->score.len, lent->state, STATE_LEN, lent->input, MAP_LEN,
-                          lent->store, MAP_LEN, lent->output, MAP_LEN, lent->scratch, SCRATCH_LEN);
+    memcpy(lent->state, lent->start, SCORE_STATE_BYTES);
+    return calls->instant(lent->score.bytes, lent->score.len, lent->state, SCORE_STATE_BYTES, lent->input,
+                          SCORE_MAP_BYTES, lent->store, SCORE_MAP_BYTES, lent->output, SCORE_MAP_BYTES, lent->scratch,
+                          SCORE_SCRATCH_BYTES);
 }
 
 static uint64_t one_run(const struct calls *calls, struct lent *lent)
 {
-    memcpy(lent->state, lent->start, STATE_LEN);
-    return calls->run(lent->score.bytes, lent->score.len, lent->state, STATE_LEN, lent->inputs, lent->inputs_len,
-                      lent->journal, sizeof lent->journal, lent->scratch, SCRATCH_LEN);
+    memcpy(lent->state, lent->start, SCORE_STATE_BYTES);
+    return calls->run(lent->score.bytes, lent->score.len, lent->state, SCORE_STATE_BYTES, lent->inputs,
+                      lent->inputs_len, lent->journal, sizeof lent->journal, lent->scratch, SCORE_SCRATCH_BYTES);
 }
 
 static uint64_t one_journal_check(const struct calls *calls, struct lent *lent)
 {
     return calls->journal_check(lent->score.bytes, lent->score.len, lent->journal, lent->journal_len, lent->scratch,
-                                SCRATCH_LEN);
+                                SCORE_SCRATCH_BYTES);
 }
 
 /* A row of the table for one score. */
@@ -93,7 +95,7 @@ static void write_start(struct lent *lent)
 {
     uint32_t agents = (lent->score.bytes[1] | (lent->score.bytes[2] & 3u) << 8) + 1, root = agents - 1;
     size_t len = 0;
-    memset(lent->start, 0, STATE_LEN);
+    memset(lent->start, 0, SCORE_STATE_BYTES);
     put_word(lent->start, &len, 0xF0000000);
     lent->start[4 + root / 8] |= (uint8_t)(1 << root % 8);
 }
@@ -102,7 +104,7 @@ static void write_start(struct lent *lent)
 static void write_inputs(struct lent *lent, const struct input_tokens *input)
 {
     size_t i, instant;
-    memset(lent->input, 0, MAP_LEN);
+    memset(lent->input, 0, SCORE_MAP_BYTES);
     for (i = 0; i < input->len; i++)
         lent->input[input->tokens[i] / 8] |= (uint8_t)(1 << input->tokens[i] % 8);
     lent->inputs_len = 0;
@@ -153,7 +155,7 @@ static int agree(const struct row *row, const struct calls *one, const struct ca
 {
     static struct lent copy;
     uint64_t answer;
-    memset(lent->scratch, 0xA5, SCRATCH_LEN);
+    memset(lent->scratch, 0xA5, SCORE_SCRATCH_BYTES);
     copy = *lent;
     answer = row->call(one, lent);
     return score_answer_number(answer) == SCORE_ACCEPTED && row->call(other, &copy) == answer

@@ -25,7 +25,8 @@ use Rattle.lent.specs.States.{agentsIn, stateFault, agentWords, asBytes, Lawful
 use Rattle.lent.proofs.Faults.{fault-running}
 use Rattle.lent.proofs.Round.{lawful-bytes}
 use Rattle.instant.specs.declared.Reply.the-variants.{State, Input}
-use Rattle.instant.specs.InstantCall.{Lent, lent, noScratch, lengthFault, tokenFault, kept, exit}
+use Rattle.lent.specs.Lengths.{stateBytes, mapBytes, scratchBytes, noScratch}
+use Rattle.instant.specs.InstantCall.{Lent, lent, lengthFault, tokenFault, kept, exit}
 use Rattle.journal.specs.declared.Form.the-variants.{Good}
 use Rattle.journal.specs.Form.{mayFollow, firstAgainst, formOf}
 use Rattle.journal.specs.Instants.{upTo, instantsIn, tokensOf, inputLists}
@@ -41,7 +42,7 @@ refused-length : (n : ℕ) → lengthVerdict n ≡ Length → (s : List ℕ) →
 unfolding verdict
 refused-length n e s h = rw (h, e)
 
-lengths-right : (state input store output scratch : List ℕ) → length state ≡ 132 → length input ≡ 32 → length store ≡ 32 → length output ≡ 32 → length scratch ≡ 2048 →
+lengths-right : (state input store output scratch : List ℕ) → length state ≡ stateBytes → length input ≡ mapBytes → length store ≡ mapBytes → length output ≡ mapBytes → length scratch ≡ scratchBytes →
     lengthFault input (lent state store output scratch) ≡ false
 lengths-right state input store output scratch a b c d e = rw (a, b, c, d, e)
 
@@ -100,7 +101,7 @@ listed-good = refl
 
 -- a run of S from its start state, by what it does, where its words fill the journal
 sample-runs : (n : ℕ) (r : Ran) → playOn (decode (bytes sample)) (running (4 ∷ [])) n (inputLists (bytes listed)) ≡ r → n ≡ 4 * length (r .words) →
-    (journal scratch : List ℕ) → length journal ≡ n → length scratch ≡ 2048 →
+    (journal scratch : List ℕ) → length journal ≡ n → length scratch ≡ scratchBytes →
     run.exit (bytes sample) (bytes listed) (run.lent (asBytes (running (4 ∷ []))) journal scratch)
     ≡ record { lent = run.lent (r .state) (bytesOf (r .words)) noScratch; reply = run.ending (r .stop) (r .instants) }
 unfolding words field

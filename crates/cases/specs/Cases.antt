@@ -23,7 +23,8 @@ use Rattle.scorefile.specs.Check.{verdict}
 use Rattle.lent.specs.States.{asBytes}
 use Rattle.instant.specs.declared.Reply.{Reply}
 use Rattle.instant.specs.declared.Reply.the-variants.{State, Input}
-use Rattle.instant.specs.InstantCall.{Exit, lent, exit, noScratch}
+use Rattle.lent.specs.Lengths.{mapBytes, scratchBytes, noScratch}
+use Rattle.instant.specs.InstantCall.{Exit, lent, exit}
 use Rattle.history.specs.declared.Reply.{Reply as RunReply}
 use Rattle.history.specs.declared.Reply.the-variants as run-reply
 use Rattle.history.specs.RunCall as run
@@ -62,10 +63,10 @@ Holds (any-bytes n v) = (s : List ℕ) → length s ≡ n → verdict s ≡ v
 Holds (weights ws l) = map (weight (decode (bytes ws))) (below (length (decode (bytes ws) .agents))) ≡ l
 Holds (instants ws agents inputs l) = map (seen (decode (bytes ws))) (answers (decode (bytes ws)) (running agents) inputs) ≡ l
 Holds (turned-down ws state input r) =
-    (store output scratch : List ℕ) → length store ≡ 32 → length output ≡ 32 → length scratch ≡ 2048 →
+    (store output scratch : List ℕ) → length store ≡ mapBytes → length output ≡ mapBytes → length scratch ≡ scratchBytes →
     _≡_ {A = Exit} (exit (bytes ws) input (lent (bytes state) store output scratch)) (record { lent = lent (bytes state) store output scratch; reply = r })
 Holds (runs ws inputs n written state r) =
-    (journal scratch : List ℕ) → length journal ≡ n → length scratch ≡ 2048 →
+    (journal scratch : List ℕ) → length journal ≡ n → length scratch ≡ scratchBytes →
     _≡_ {A = run.Exit} (run.exit (bytes ws) (bytes inputs) (run.lent (asBytes (startState (decode (bytes ws)))) journal scratch))
     (record { lent = run.lent (bytes state) (bytes written) noScratch; reply = r })
 

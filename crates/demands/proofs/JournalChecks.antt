@@ -17,7 +17,7 @@ use Rattle.scorefile.specs.Check as check
 use Rattle.words.specs.Word.{words}
 use Rattle.lent.specs.Bits.{bytesOf}
 use Rattle.lent.specs.States.{stateFault, asBytes, LawfulState}
-use Rattle.instant.specs.InstantCall.{scratchBytes}
+use Rattle.lent.specs.Lengths.{scratchBytes}
 use Rattle.journal.specs.declared.Form.{Form}
 use Rattle.journal.specs.declared.Form.the-variants.{Good, Bytes, Word}
 use Rattle.journal.specs.Form.{formOf}

@@ -13,10 +13,11 @@ use Rattle.tcc.specs.Instant.{after}
 use Rattle.format.specs.Decode.{sizes, decode}
 use Rattle.format.proofs.Decode.{decode-tokens, sizes-few}
 use Rattle.scorefile.specs.Check as check
-use Rattle.lent.specs.Maps.{mapBytes, tokensIn, mapOf}
-use Rattle.lent.specs.States.{stateBytes, stateFault}
+use Rattle.lent.specs.Lengths.{stateBytes, mapBytes, scratchBytes, noScratch}
+use Rattle.lent.specs.Maps.{tokensIn, mapOf}
+use Rattle.lent.specs.States.{stateFault}
 use Rattle.lent.proofs.Round.{asBytes-length, mapOf-length}
-use Rattle.instant.specs.InstantCall.{Lent, lent, scratchBytes, noScratch, lengthFault, exit}
+use Rattle.instant.specs.InstantCall.{Lent, lent, lengthFault, exit}
 use Rattle.instant.proofs.Exits.{Lengths-are}
 use Rattle.journal.specs.History.{Rising}
 use Rattle.journal.proofs.Rising.{rising-below, rising-map}

@@ -19,8 +19,8 @@ use Rattle.format.proofs.Decode.{decode-tokens}
 use Rattle.scorefile.specs.declared.Verdict.{Verdict}
 use Rattle.scorefile.specs.Check as check
 use Rattle.scorefile.proofs.Values.{number-few}
-use Rattle.lent.specs.States.{stateBytes, stateFault, asBytes}
-use Rattle.instant.specs.InstantCall.{scratchBytes}
+use Rattle.lent.specs.Lengths.{stateBytes, scratchBytes}
+use Rattle.lent.specs.States.{stateFault, asBytes}
 use Rattle.journal.specs.declared.Form.{Form}
 use Rattle.journal.specs.declared.Form.the-variants.{Good, Bytes, Word}
 use Rattle.journal.specs.Form.{formOf}

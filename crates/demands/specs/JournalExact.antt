@@ -14,7 +14,7 @@ use Rattle.format.specs.Decode.{decode}
 use Rattle.scorefile.specs.Check.{numberOf, verdict}
 use Rattle.lent.specs.Bits.{bytesOf}
 use Rattle.lent.specs.States.{asBytes}
-use Rattle.instant.specs.InstantCall.{scratchBytes}
+use Rattle.lent.specs.Lengths.{scratchBytes}
 use Rattle.journal.specs.Instants.{inputLists}
 use Rattle.journal.specs.History.{history, IsHistory}
 use Rattle.history.specs.RunCall.{Lent}

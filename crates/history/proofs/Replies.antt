@@ -15,7 +15,7 @@ use Rattle.scorefile.specs.Check.{numberOf, verdict}
 use Rattle.words.specs.Word.{words}
 use Rattle.words.proofs.Words.{words-length}
 use Rattle.lent.specs.States.{stateFault, asBytes}
-use Rattle.instant.specs.InstantCall.{scratchBytes}
+use Rattle.lent.specs.Lengths.{scratchBytes}
 use Rattle.journal.specs.declared.Form.{Form}
 use Rattle.journal.specs.declared.Form.the-variants.{Good, Bytes as NotWhole, Word as Wrong}
 use Rattle.journal.specs.Form.{formOf}

@@ -12,8 +12,8 @@ use Rattle.format.specs.Decode.{sizes}
 use Rattle.scorefile.specs.declared.Verdict.{Verdict}
 use Rattle.scorefile.specs.Check.{numberOf, verdict}
 use Rattle.scorefile.proofs.Accepted.{neither}
-use Rattle.lent.specs.States.{stateBytes, stateFault}
-use Rattle.instant.specs.InstantCall.{scratchBytes, noScratch}
+use Rattle.lent.specs.Lengths.{stateBytes, scratchBytes, noScratch}
+use Rattle.lent.specs.States.{stateFault}
 use Rattle.instant.proofs.Exits.{right}
 use Rattle.journal.specs.declared.Form.the-variants.{Good, Bytes, Word}
 use Rattle.journal.specs.Form.{formOf}

@@ -14,7 +14,7 @@ use Rattle.format.specs.Decode.{sizes, decode}
 use Rattle.scorefile.specs.Check.{numberOf, verdict}
 use Rattle.words.specs.Word.{words}
 use Rattle.lent.specs.States.{asBytes}
-use Rattle.instant.specs.InstantCall.{scratchBytes, noScratch}
+use Rattle.lent.specs.Lengths.{scratchBytes, noScratch}
 use Rattle.journal.specs.declared.Form.{Form}
 use Rattle.journal.specs.declared.Form.the-variants.{Good, Bytes, Word}
 use Rattle.journal.specs.Form.{formOf}

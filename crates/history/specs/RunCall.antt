@@ -15,8 +15,8 @@ use lib.ListN.{length, drop}
 use Rattle.format.specs.Decode.{sizes}
 use Rattle.scorefile.specs.Check.{numberOf, verdict}
 use Rattle.lent.specs.Bits.{bytesOf}
-use Rattle.lent.specs.States.{stateBytes, stateFault}
-use Rattle.instant.specs.InstantCall.{scratchBytes, noScratch}
+use Rattle.lent.specs.Lengths.{stateBytes, scratchBytes, noScratch}
+use Rattle.lent.specs.States.{stateFault}
 use Rattle.journal.specs.declared.Form.{Form}
 use Rattle.journal.specs.declared.Form.the-variants.{Good, Bytes, Word}
 use Rattle.journal.specs.Form.{formOf}

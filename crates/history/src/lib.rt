@@ -9,8 +9,8 @@ ghost use Rattle.words.specs.Word.{words};
 ghost use Rattle.format.specs.Decode.{sizes, decode};
 ghost use Rattle.store.specs.Flags.{setOf};
 ghost use Rattle.store.specs.Playable.{Playable};
-ghost use Rattle.lent.specs.States.{stateBytes, stateFault, stateOf, asBytes, LawfulState};
-ghost use Rattle.instant.specs.InstantCall.{scratchBytes};
+ghost use Rattle.lent.specs.Lengths.{stateBytes, scratchBytes};
+ghost use Rattle.lent.specs.States.{stateFault, stateOf, asBytes, LawfulState};
 ghost use Rattle.instant.specs.Standing.{stateIn};
 ghost use Rattle.journal.specs.declared.Form.the-variants.{Good};
 ghost use Rattle.journal.specs.Form.{formOf};
@@ -26,11 +26,6 @@ use instant::Standing;
 use journal::Form;
 use scorefile::Verdict;
 use store::Tokens;
-
-// The bytes of a state and of the scratch.
-const STATE_BYTES: usize = 132;
-
-const SCRATCH_BYTES: usize = 2048;
 
 // What a run or a journal check answers.
 pub enum Reply {
@@ -122,7 +117,7 @@ pub fn run(
 fn run_from(score: &[u8], head: Sizes, state: &mut [u8], inputs: &[u8], journal: &mut [u8]) -> Reply
     requires { ⌜ head ≡ sizes (now score) ⌝ }
     requires { ⌜ Playable (now score) ⌝ }
-    requires { ⌜ length (now state) ≡ 132 ⌝ }
+    requires { ⌜ length (now state) ≡ stateBytes ⌝ }
     requires { ⌜ stateFault (sizes (now score) .agents) (now state) ≡ false ⌝ }
     requires { ⌜ formOf false (sizes (now score) .tokens) (now inputs) ≡ Good ⌝ }
     ensures { λ r. ⌜ LeftBy (runFrom (now (score .entry)) (now (state .entry)) (length (now (journal .entry))) (inputLists (now (inputs .entry)))) (now (journal .entry)) (now (state .exit)) (now (journal .exit)) r ⌝ }
@@ -138,7 +133,7 @@ fn run_from(score: &[u8], head: Sizes, state: &mut [u8], inputs: &[u8], journal:
 fn wrong_length(state: usize, scratch: usize) -> bool
     ensures { λ r. ⌜ r ≡ (not (eqb state stateBytes) || not (eqb scratch scratchBytes)) ⌝ }
 {
-    (state != STATE_BYTES) | (scratch != SCRATCH_BYTES)
+    (state != lent::STATE_BYTES) | (scratch != lent::SCRATCH_BYTES)
 }
 
 // The reply by the reason for the stop.
@@ -154,7 +149,7 @@ fn reply_of(stop: Stop, instants: usize) -> Reply
 
 // Writes the state after a run that wrote an instant.
 fn keep(state: &mut [u8], agents: usize, ended: Ended)
-    requires { ⌜ length (now state) ≡ 132 ⌝ }
+    requires { ⌜ length (now state) ≡ stateBytes ⌝ }
     requires { ⌜ LawfulState agents (stateIn (ended .standing)) ⌝ }
     ensures { λ _. ⌜ now (state .exit) ≡ cond (eqb (ended .instants) 0) (now (state .entry)) (asBytes (stateIn (ended .standing))) ⌝ }
 {
@@ -271,7 +266,7 @@ pub fn journal_check(score: &[u8], journal: &[u8], scratch: &mut [u8]) -> Reply
     if scorefile::number_of(verdict) != 0 {
         return Reply::Score(verdict);
     }
-    if scratch.len() != SCRATCH_BYTES {
+    if scratch.len() != lent::SCRATCH_BYTES {
         return Reply::Lengths;
     }
     let head = format::sizes_of(words::word_at(score, 0));
@@ -329,7 +324,7 @@ fn start(score: &[u8], head: Sizes) -> Standing
 // Writes the start state of a score.
 pub fn write_start(score: &[u8], state: &mut [u8])
     requires { ⌜ Playable (now score) ⌝ }
-    requires { ⌜ length (now state) ≡ 132 ⌝ }
+    requires { ⌜ length (now state) ≡ stateBytes ⌝ }
     ensures { λ _. ⌜ now (state .exit) ≡ asBytes (startState (decode (now (score .entry)))) ⌝ }
 {
     let head = format::sizes_of(words::word_at(score, 0));

@@ -12,10 +12,11 @@ use Rattle.format.specs.Decode.{sizes, decode}
 use Rattle.scorefile.specs.declared.Verdict.{Verdict}
 use Rattle.scorefile.specs.Check.{numberOf, verdict}
 use Rattle.scorefile.proofs.Accepted.{neither}
-use Rattle.lent.specs.Maps.{mapBytes, tokensIn}
-use Rattle.lent.specs.States.{stateBytes, stateFault, stateOf, asBytes}
+use Rattle.lent.specs.Lengths.{stateBytes, mapBytes, scratchBytes}
+use Rattle.lent.specs.Maps.{tokensIn}
+use Rattle.lent.specs.States.{stateFault, stateOf, asBytes}
 use Rattle.instant.specs.declared.Reply.the-variants.{Score as Turned, Lengths, State, Input}
-use Rattle.instant.specs.InstantCall.{Lent, Exit, scratchBytes, lengthFault, tokenFault, kept, answered, exit}
+use Rattle.instant.specs.InstantCall.{Lent, Exit, lengthFault, tokenFault, kept, answered, exit}
 
 module _ (score given : List ℕ) (l : Lent) where
   pub turned : (v : Verdict) → v ≡ verdict score → (numberOf v ≡ 0 → ⊥) → kept l (Turned v) ≡ exit score given l

@@ -13,14 +13,15 @@ use Rattle.tcc.specs.Instant.{output}
 use Rattle.format.specs.declared.Sizes.{Sizes}
 use Rattle.store.specs.Flags.{setOf}
 use Rattle.engine.specs.declared.Outcome.{Outcome}
+use Rattle.lent.specs.Lengths.{stateBytes, mapBytes}
 use Rattle.lent.specs.Bits.{bytesOf}
 use Rattle.lent.specs.Maps.{mapOf}
 use Rattle.lent.specs.States.{runningWord, abortedWord, agentWords}
 
 pub record Buffers (state store output : List ℕ) : Type 0 where
-  pub state-bytes : length state ≡ 132
-  pub store-bytes : length store ≡ 32
-  pub output-bytes : length output ≡ 32
+  pub state-bytes : length state ≡ stateBytes
+  pub store-bytes : length store ≡ mapBytes
+  pub output-bytes : length output ≡ mapBytes
 
 pub record Known (head : Sizes) (o : Outcome) : Type 0 where
   pub agents : (i : ℕ) → head .agents ≤ i → getD (o .awake) i false ≡ false

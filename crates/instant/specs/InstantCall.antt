@@ -12,14 +12,15 @@ use mathlib.Core.Bool.{Bool, true, false, cond, not, _||_}
 use mathlib.Core.List.{List}
 use Prim.Native.Nat.{ℕ}
 use lib.Dec.{eqb, leb}
-use lib.ListN.{length, replicate}
+use lib.ListN.{length}
 use Rattle.tcc.specs.Sets.{any}
 use Rattle.tcc.specs.Score.{Score}
 use Rattle.tcc.specs.Instant.{Answer, count, output, answer, after}
 use Rattle.format.specs.Decode.{sizes, decode}
 use Rattle.scorefile.specs.Check.{numberOf, verdict}
-use Rattle.lent.specs.Maps.{mapBytes, tokensIn, mapOf}
-use Rattle.lent.specs.States.{stateBytes, stateFault, stateOf, asBytes}
+use Rattle.lent.specs.Lengths.{stateBytes, mapBytes, scratchBytes, noScratch}
+use Rattle.lent.specs.Maps.{tokensIn, mapOf}
+use Rattle.lent.specs.States.{stateFault, stateOf, asBytes}
 use Rattle.instant.specs.declared.Reply.{Reply}
 use Rattle.instant.specs.declared.Reply.the-variants.{Score as Turned, Lengths, State, Input, Next, Settled}
 
@@ -35,12 +36,6 @@ lent state store output scratch = record { state = state; store = store; output 
 pub record Exit : Type 0 where
   pub lent : Lent
   pub reply : Reply
-
-abbrev pub scratchBytes : ℕ
-scratchBytes = 2048
-
-abbrev pub noScratch : List ℕ
-noScratch = replicate scratchBytes 0
 
 abbrev pub lengthFault : List ℕ → Lent → Bool
 lengthFault input l =

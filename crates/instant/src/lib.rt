@@ -9,9 +9,9 @@ ghost use Rattle.format.specs.Decode.{sizes, decode};
 ghost use Rattle.store.specs.Flags.{setOf, flagsOf};
 ghost use Rattle.store.specs.Playable.{Playable};
 ghost use Rattle.engine.specs.Outcome.{outcomeOf};
-ghost use Rattle.lent.specs.Maps.{mapBytes};
-ghost use Rattle.lent.specs.States.{stateBytes, runningWord, abortedWord, stateOf, asBytes, LawfulState};
-ghost use Rattle.instant.specs.InstantCall.{lent, scratchBytes, InstantCall};
+ghost use Rattle.lent.specs.Lengths.{stateBytes, mapBytes, scratchBytes};
+ghost use Rattle.lent.specs.States.{runningWord, abortedWord, stateOf, asBytes, LawfulState};
+ghost use Rattle.instant.specs.InstantCall.{lent, InstantCall};
 ghost use Rattle.instant.specs.Standing.{stateIn, standingIn};
 ghost use Rattle.instant.specs.HandedOver.{Buffers, Known, HandedOver};
 use engine::Outcome;
@@ -19,18 +19,6 @@ use format::Sizes;
 use scorefile::Verdict;
 use store::Agents;
 use store::Tokens;
-
-// The bytes of a state, of a map and of the scratch.
-const STATE_BYTES: usize = 132;
-
-const MAP_BYTES: usize = 32;
-
-const SCRATCH_BYTES: usize = 2048;
-
-// Word 0 of a state.
-const RUNNING: u32 = 0xF000_0000;
-
-const ABORTED: u32 = 0xF000_0001;
 
 // What an instant call answers.
 pub enum Reply {
@@ -124,25 +112,29 @@ fn hand_over(
 fn first_word(status: usize) -> u32
     ensures { λ r. ⌜ r ≡ cond (eqb status 2) abortedWord runningWord ⌝ }
 {
-    if status == 2 { ABORTED } else { RUNNING }
+    if status == 2 {
+        lent::ABORTED
+    } else {
+        lent::RUNNING
+    }
 }
 
 // Whether a buffer has another length than it should.
 fn wrong_length(state: usize, input: usize, store: usize, output: usize, scratch: usize) -> bool
     ensures { λ r. ⌜ r ≡ (not (eqb state stateBytes) || not (eqb input mapBytes) || not (eqb store mapBytes) || not (eqb output mapBytes) || not (eqb scratch scratchBytes)) ⌝ }
 {
-    (state != STATE_BYTES)
-        | (input != MAP_BYTES)
-        | (store != MAP_BYTES)
-        | (output != MAP_BYTES)
-        | (scratch != SCRATCH_BYTES)
+    (state != lent::STATE_BYTES)
+        | (input != lent::MAP_BYTES)
+        | (store != lent::MAP_BYTES)
+        | (output != lent::MAP_BYTES)
+        | (scratch != lent::SCRATCH_BYTES)
 }
 
 // The answer in a state.
 fn answer_in(score: &[u8], head: Sizes, state: &[u8], inputs: Tokens) -> Outcome
     requires { ⌜ head ≡ sizes (now score) ⌝ }
     requires { ⌜ Playable (now score) ⌝ }
-    requires { ⌜ length (now state) ≡ 132 ⌝ }
+    requires { ⌜ length (now state) ≡ stateBytes ⌝ }
     ensures { λ r. ⌜ r ≡ outcomeOf (answer (decode (now (score .entry))) (stateOf (now (state .entry))) (setOf inputs)) ⌝ }
 {
     answer_from(score, head, standing_in(state), inputs)
@@ -150,10 +142,10 @@ fn answer_in(score: &[u8], head: Sizes, state: &[u8], inputs: Tokens) -> Outcome
 
 // Where a score stands in a state.
 pub fn standing_in(state: &[u8]) -> Standing
-    requires { ⌜ length (now state) ≡ 132 ⌝ }
+    requires { ⌜ length (now state) ≡ stateBytes ⌝ }
     ensures { λ r. ⌜ r ≡ standingIn (now (state .entry)) ⌝ }
 {
-    let running = words::word_at(state, 0) != ABORTED;
+    let running = words::word_at(state, 0) != lent::ABORTED;
     let awake = lent::read_agents(state);
     Standing { running, awake }
 }
@@ -190,16 +182,16 @@ pub fn standing_after(outcome: Outcome) -> Standing
 
 // Writes the state that a score stands in.
 pub fn write_standing(state: &mut [u8], agents: usize, standing: Standing)
-    requires { ⌜ length (now state) ≡ 132 ⌝ }
+    requires { ⌜ length (now state) ≡ stateBytes ⌝ }
     requires { ⌜ LawfulState agents (stateIn standing) ⌝ }
     ensures { λ _. ⌜ now (state .exit) ≡ asBytes (stateIn standing) ⌝ }
 {
     let awake = standing.awake;
     if standing.running {
-        lent::write_state(state, RUNNING, agents, awake);
+        lent::write_state(state, lent::RUNNING, agents, awake);
         return;
     }
-    lent::write_state(state, ABORTED, 0, [false; 1024]);
+    lent::write_state(state, lent::ABORTED, 0, [false; 1024]);
 }
 
 // What goes to the ports of a store: the one place where outputs are read off.

@@ -15,6 +15,7 @@ use lib.Seq.{drop-cons, set-at, append-snoc}
 use Rattle.tcc.specs.Sets.{below, has}
 use Rattle.store.specs.Flags.{setOf}
 use Rattle.store.proofs.Flags.{below-length}
+use Rattle.lent.specs.Lengths.{stateBytes, mapBytes}
 use Rattle.lent.specs.Bits.{bitsValue, bytesOf}
 use Rattle.lent.specs.Maps.{mapOf}
 use Rattle.lent.specs.States.{agentWords}
@@ -50,7 +51,7 @@ module _ (first : ℕ) (awake : List Bool) where
       ∙ ap (λ l. Written (first ∷ l) s) (sym (map-snoc (gathered 32 awake) (below k) k))
       ∙ ap (λ n. Written (first ∷ map (gathered 32 awake) (below n)) s) (sym (add-one k))
 
-  pub state-all : (s : List ℕ) → length s ≡ 132 → stateWritten first awake 32 s ≡ bytesOf (first ∷ agentWords (setOf awake))
+  pub state-all : (s : List ℕ) → length s ≡ stateBytes → stateWritten first awake 32 s ≡ bytesOf (first ∷ agentWords (setOf awake))
   unfolding stateWritten agentWords
   state-all s h =
       written-all (first ∷ map (gathered 32 awake) (below 32)) s (omega (arith, parts-length 32 32 awake))
@@ -75,7 +76,7 @@ module _ (flags : List Bool) where
       ∙ ap (λ r. r ++ drop (suc k) s) (sym (map-snoc (gathered 8 flags) (below k) k))
       ∙ ap (λ n. map (gathered 8 flags) (below n) ++ drop n s) (sym (add-one k))
 
-  pub map-all : (s : List ℕ) → length s ≡ 32 → mapWritten flags 32 s ≡ mapOf (setOf flags)
+  pub map-all : (s : List ℕ) → length s ≡ mapBytes → mapWritten flags 32 s ≡ mapOf (setOf flags)
   unfolding mapWritten mapOf
   map-all s h =
       ap₂ _++_ (map-same (gathered 8 flags) (λ k. bitsValue (λ j. has (8 * k + j) (setOf flags)) 8) (below 32) (from-set 8 flags)) (drop-of-length-le s {i = 32} (omega arith))

@@ -1,6 +1,6 @@
 -- States and maps, read back from the bytes that they are written as.
 --     words-bytes        the words of the bytes of words are those words
---     asBytes-length     a state has 132 bytes
+--     asBytes-length     the bytes of a state
 --     asBytes-same       the same agents make the same bytes
 --     agents-round       the agents awake in the bytes written for a set are the set's
 --     state-round        bytes written for a state stand for it
@@ -25,6 +25,7 @@ use Rattle.tcc.proofs.Sets.{Within, true-is-false, any-some, some-any, on-keep,
 use Rattle.store.proofs.Flags.{below-length, below-at, map-at}
 use Rattle.words.specs.Word.{joined, words, wordAt}
 use Rattle.words.specs.Map.{inMap}
+use Rattle.lent.specs.Lengths.{stateBytes, mapBytes}
 use Rattle.lent.specs.Bits.{bitAt, bitsValue, bytesOf}
 use Rattle.lent.specs.Maps.{tokensIn, mapOf}
 use Rattle.lent.specs.States.{runningWord, abortedWord, agentsIn, stateFault, stateOf, agentWords, asBytes, LawfulState, SameState}
@@ -99,7 +100,7 @@ module _ (first : ℕ) (fits : first < 2 ^ 32) (l : List ℕ) where
       from : List·Memᴰ i l → List·Memᴰ i (keep (awakeIn s) (below 1024))
       from m = let h : i < 1024 = within i m in keep-kept (awakeIn s) (lt-below 1024 h) (awake-round i h ∙ member-has m)
 
-pub asBytes-length : (st : State) → length (asBytes st) ≡ 132
+pub asBytes-length : (st : State) → length (asBytes st) ≡ stateBytes
 unfolding asBytes
 asBytes-length (running l) = bytesOf-length (runningWord ∷ agentWords l) ∙ ap (λ n. 4 * suc n) (agentWords-length l)
 asBytes-length aborted = bytesOf-length (abortedWord ∷ agentWords []) ∙ ap (λ n. 4 * suc n) (agentWords-length [])
@@ -162,7 +163,7 @@ faultless-lawful n s e = go (eqb (wordAt s 0) abortedWord)
 abbrev byte : List ℕ → ℕ → ℕ
 byte l k = bitsValue (λ j. has (8 * k + j) l) 8
 
-pub mapOf-length : (l : List ℕ) → length (mapOf l) ≡ 32
+pub mapOf-length : (l : List ℕ) → length (mapOf l) ≡ mapBytes
 unfolding mapOf
 mapOf-length l = length-map (below 32) (byte l) ∙ below-length 32
 

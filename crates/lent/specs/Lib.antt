@@ -1,3 +1,4 @@
+pub mod Lengths
 pub mod Bits
 pub mod Maps
 pub mod States

@@ -1,15 +1,12 @@
 -- "Input, store and output maps: 32 bytes, token t being bit (t mod 8) of byte t div 8."
---     mapBytes       the length of a map
 --     tokensIn       the tokens in a map, rising
 --     mapOf          the map of a set of tokens
 use mathlib.Core.List.{List, map}
 use Prim.Native.Nat.{ℕ, _+_, _*_}
 use Rattle.tcc.specs.Sets.{below, keep, has}
 use Rattle.words.specs.Map.{inMap}
+use Rattle.lent.specs.Lengths.{mapBytes}
 use Rattle.lent.specs.Bits.{bitsValue}
-
-abbrev pub mapBytes : ℕ
-mapBytes = 32
 
 unfoldable pub tokensIn : List ℕ → List ℕ
 tokensIn m = keep (inMap m) (below 256)

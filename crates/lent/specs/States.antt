@@ -1,6 +1,5 @@
 -- "State: 33 words, stored as a score's are. Word 0 is 0xF0000000 running or 0xF0000001 aborted; agent i is bit
 -- (i mod 32) of word 1 + i div 32. An aborted state has no agents. Any set of the score's agents is a lawful state."
---     stateBytes               the length of a state
 --     runningWord, abortedWord
 --     agentsIn                 the agents awake in a state, rising
 --     stateFault               whether bytes meet number 9, at a score with n agents
@@ -17,9 +16,6 @@ use Rattle.tcc.specs.Sets.{Same, below, keep, any, has}
 use Rattle.tcc.specs.Instant.{State, running, aborted}
 use Rattle.words.specs.Word.{wordAt}
 use Rattle.lent.specs.Bits.{bitAt, bitsValue, bytesOf}
-
-abbrev pub stateBytes : ℕ
-stateBytes = 132
 
 abbrev pub runningWord : ℕ
 runningWord = 0xF0000000

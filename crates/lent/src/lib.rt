@@ -7,10 +7,23 @@ ghost use lib.Dec.{eqb, leb};
 ghost use Rattle.tcc.specs.Sets.{any};
 ghost use Rattle.store.specs.Flags.{setOf, flagsOf};
 ghost use Rattle.lent.specs.Bits.{bitsValue, bytesOf, Spread};
+ghost use Rattle.lent.specs.Lengths.{stateBytes, mapBytes};
 ghost use Rattle.lent.specs.Maps.{tokensIn, mapOf};
 ghost use Rattle.lent.specs.States.{agentsIn, stateFault, agentWords};
 use store::Agents;
 use store::Tokens;
+
+// The bytes of a state, of a map and of the scratch.
+pub const STATE_BYTES: usize = 132;
+
+pub const MAP_BYTES: usize = 32;
+
+pub const SCRATCH_BYTES: usize = 2048;
+
+// Word 0 of a state.
+pub const RUNNING: u32 = 0xF000_0000;
+
+pub const ABORTED: u32 = 0xF000_0001;
 
 // Clears a buffer.
 pub fn clear(bytes: &mut [u8])
@@ -25,7 +38,7 @@ pub fn clear(bytes: &mut [u8])
 
 // The agents awake in a state, as flags.
 pub fn read_agents(state: &[u8]) -> Agents
-    requires { ⌜ length (now state) ≡ 132 ⌝ }
+    requires { ⌜ length (now state) ≡ stateBytes ⌝ }
     ensures { λ r. ⌜ r ≡ flagsOf 1024 (agentsIn (now (state .entry))) ⌝ }
 {
     let mut flags = [false; 1024];
@@ -42,7 +55,7 @@ pub fn read_agents(state: &[u8]) -> Agents
 
 // The tokens in a map, as flags.
 pub fn read_map(map: &[u8]) -> Tokens
-    requires { ⌜ length (now map) ≡ 32 ⌝ }
+    requires { ⌜ length (now map) ≡ mapBytes ⌝ }
     ensures { λ r. ⌜ r ≡ flagsOf 256 (tokensIn (now (map .entry))) ⌝ }
 {
     let mut flags = [false; 256];
@@ -78,7 +91,7 @@ fn widen(x: u8) -> u32
 
 // Writes a state: its first word, and the agents awake, all of them below `agents`.
 pub fn write_state(state: &mut [u8], first: u32, agents: usize, awake: Agents)
-    requires { ⌜ length (now state) ≡ 132 ⌝ }
+    requires { ⌜ length (now state) ≡ stateBytes ⌝ }
     requires { ⌜ ((i : ℕ) → agents ≤ i → getD awake i false ≡ false) ⌝ }
     ensures { λ _. ⌜ now (state .exit) ≡ bytesOf (first ∷ agentWords (setOf awake)) ⌝ }
 {
@@ -93,7 +106,7 @@ pub fn write_state(state: &mut [u8], first: u32, agents: usize, awake: Agents)
 
 // Writes a map: the tokens of a set, all of them below `tokens`.
 pub fn write_map(map: &mut [u8], tokens: usize, set: Tokens)
-    requires { ⌜ length (now map) ≡ 32 ⌝ }
+    requires { ⌜ length (now map) ≡ mapBytes ⌝ }
     requires { ⌜ ((i : ℕ) → tokens ≤ i → getD set i false ≡ false) ⌝ }
     ensures { λ _. ⌜ now (map .exit) ≡ mapOf (setOf set) ⌝ }
 {
@@ -138,13 +151,13 @@ pub fn put_word(bytes: &mut [u8], i: usize, w: u32)
 
 // Whether bytes are no state of a score with so many agents.
 pub fn state_fault(state: &[u8], agents: usize) -> bool
-    requires { ⌜ length (now state) ≡ 132 ⌝ }
+    requires { ⌜ length (now state) ≡ stateBytes ⌝ }
     ensures { λ r. ⌜ r ≡ stateFault agents (now (state .entry)) ⌝ }
 {
     let first = words::word_at(state, 0);
-    if first == 0xF000_0000 {
+    if first == RUNNING {
         agent_from(state, agents)
-    } else if first == 0xF000_0001 {
+    } else if first == ABORTED {
         agent_from(state, 0)
     } else {
         true
@@ -153,7 +166,7 @@ pub fn state_fault(state: &[u8], agents: usize) -> bool
 
 // Whether an agent from a number on is awake in a state.
 fn agent_from(state: &[u8], from: usize) -> bool
-    requires { ⌜ length (now state) ≡ 132 ⌝ }
+    requires { ⌜ length (now state) ≡ stateBytes ⌝ }
     ensures { λ r. ⌜ r ≡ any (λ i. leb from i) (agentsIn (now (state .entry))) ⌝ }
 {
     let mut found = false;

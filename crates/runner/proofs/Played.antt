@@ -9,7 +9,7 @@ use Rattle.tcc.specs.Instant.{startState}
 use Rattle.format.specs.Decode.{decode}
 use Rattle.scorefile.specs.Check.{numberOf, verdict}
 use Rattle.lent.specs.States.{asBytes}
-use Rattle.instant.specs.InstantCall.{noScratch}
+use Rattle.lent.specs.Lengths.{noScratch}
 use Rattle.history.specs.RunCall.{Lent, lent, Exit, exit}
 use Rattle.history.proofs.RunExits.{turned}
 use Rattle.score.specs.Answer.{packed, numberIn}

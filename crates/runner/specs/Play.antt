@@ -14,7 +14,7 @@ use Rattle.tcc.specs.Instant.{startState}
 use Rattle.words.specs.Word.{words}
 use Rattle.format.specs.Decode.{decode}
 use Rattle.lent.specs.States.{asBytes}
-use Rattle.instant.specs.InstantCall.{noScratch}
+use Rattle.lent.specs.Lengths.{noScratch}
 use Rattle.history.specs.RunCall.{Lent, lent}
 use Rattle.score.specs.Answer.{numberIn}
 use Rattle.score.specs.ScoreRun.{ScoreRun}

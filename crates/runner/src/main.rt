@@ -7,6 +7,7 @@ ghost use Rattle.tcc.specs.Instant.{startState};
 ghost use Rattle.format.specs.Decode.{decode};
 ghost use Rattle.words.specs.Word.{words};
 ghost use Rattle.scorefile.specs.Check.{verdict, numberOf};
+ghost use Rattle.lent.specs.Lengths.{stateBytes};
 ghost use Rattle.lent.specs.States.{asBytes};
 ghost use Rattle.score.specs.Answer.{numberIn};
 ghost use Rattle.io.specs.Counts.{Counts};
@@ -67,16 +68,16 @@ fn play(score: &[u8], inputs: &[u8], journal: &mut [u8]) -> u64
     ensures { λ r. ⌜ Played (now (score .entry)) (now (inputs .entry)) (now (journal .entry)) (now (journal .exit)) r ⌝ }
 {
     let mut state = start(score);
-    let mut scratch = [0u8; 2048];
+    let mut scratch = [0u8; lent::SCRATCH_BYTES];
     number_in(score::score_run(score, &mut state, inputs, journal, &mut scratch))
 }
 
 // The start state, if the score is accepted.
-fn start(score: &[u8]) -> [u8; 132]
-    ensures { λ r. ⌜ 132 ≡ length r ⌝ }
+fn start(score: &[u8]) -> [u8; lent::STATE_BYTES]
+    ensures { λ r. ⌜ stateBytes ≡ length r ⌝ }
     ensures { λ r. ⌜ (numberOf (verdict (now (score .entry))) ≡ 0 → r ≡ asBytes (startState (decode (now (score .entry))))) ⌝ }
 {
-    let mut state = [0u8; 132];
+    let mut state = [0u8; lent::STATE_BYTES];
     if scorefile::number_of(scorefile::check(score)) == 0 {
         history::write_start(score, &mut state);
     }

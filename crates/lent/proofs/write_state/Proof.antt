@@ -4,12 +4,13 @@ use Prim.Native.Nat.{_-_, _≤_}
 use borrow.Author.Needs.{needs}
 use native.Mathlib.Omega.{arith}
 use lib.ListN.{length}
+use Rattle.lent.specs.Lengths.{stateBytes}
 use Rattle.lent.proofs.Gathered.{stateWritten, state-first, state-more, state-all}
 use Rattle.lent.proofs.write_state.Statement.{statement}
 use Rattle.lent.proofs.write_state.Tie as tie
 
 abbrev Inv-loop : tie.InvT-loop
-Inv-loop state₀ first agents awake k₀ state k = (k ≤ 32) × (length state ≡ 132) × (length state₀ ≡ 132) × (length awake ≡ 1024) × (state ≡ stateWritten first awake k state₀)
+Inv-loop state₀ first agents awake k₀ state k = (k ≤ 32) × (length state ≡ stateBytes) × (length state₀ ≡ stateBytes) × (length awake ≡ 1024) × (state ≡ stateWritten first awake k state₀)
 
 abbrev μ-loop : tie.MeasureT-loop
 μ-loop state₀ first agents awake k₀ state k = 32 - k
@@ -20,7 +21,7 @@ put-word-requires c κs = omega arith
 loop-holds : tie.Need-loop-holds Inv-loop μ-loop
 loop-holds c = let b = c .before .before .before .before .before in
     let t = c .before .before .put-word in
-    let long : length (t .last .0) ≡ 132 = t .kept .0 ∙ b .pre .0 in
+    let long : length (t .last .0) ≡ stateBytes = t .kept .0 ∙ b .pre .0 in
     (search needs, long, long, search needs, state-first (b .args .first) (b .args .t4) (b .args .state .now) (t .last .0) (t .ensures))
 
 slice-aggregate-gather : tie.Need-slice-aggregate-gather Inv-loop μ-loop

@@ -1,0 +1,19 @@
+-- The lengths in bytes of what the caller lends: "State: 33 words. Input, store and output maps: 32 bytes. Scratch: 2,048
+-- bytes."
+--     stateBytes, mapBytes, scratchBytes
+--     noScratch                            a scratch that is all zero
+use mathlib.Core.List.{List}
+use Prim.Native.Nat.{ℕ}
+use lib.ListN.{replicate}
+
+abbrev pub stateBytes : ℕ
+stateBytes = 132
+
+abbrev pub mapBytes : ℕ
+mapBytes = 32
+
+abbrev pub scratchBytes : ℕ
+scratchBytes = 2048
+
+abbrev pub noScratch : List ℕ
+noScratch = replicate scratchBytes 0
