@@ -1,5 +1,6 @@
 -- Laws of a reader's positions.
 --     start-good, start-bytes, start-word     where it starts, by the form
+--     start-of         and of a journal
 --     size-part        what is shown at a position is the journal's part there
 --     size-fits        it is within the bytes
 --     size-shown       its length
@@ -22,19 +23,22 @@ use Rattle.journal.specs.Instants.{span, partFrom, partAt}
 use Rattle.journal.proofs.Parts.{span-fits}
 use Rattle.reader.specs.Reading.{startBy, startOf, sizeAt, placeAfter}
 
-module _ (tokens : ℕ) (bytes : List ℕ) where
-  start-by : {form : Form} → formOf true tokens bytes ≡ form → startBy form bytes ≡ startOf tokens bytes
-  unfolding startOf
+module _ (bytes : List ℕ) where
+  start-by : {form g : Form} → form ≡ g → startBy g bytes ≡ startBy form bytes
   start-by e = ap (λ f. startBy f bytes) (sym e)
 
-  pub start-good : {form : Form} → form ≡ Good → form ≡ formOf true tokens bytes → 0 ≡ startOf tokens bytes
-  start-good g e = start-by (sym e ∙ g)
+  pub start-good : {form : Form} → form ≡ Good → 0 ≡ startBy form bytes
+  start-good e = start-by e
 
-  pub start-bytes : {form : Form} → form ≡ Bytes → form ≡ formOf true tokens bytes → length bytes ≡ startOf tokens bytes
-  start-bytes g e = start-by (sym e ∙ g)
+  pub start-bytes : {form : Form} → form ≡ Bytes → length bytes ≡ startBy form bytes
+  start-bytes e = start-by e
 
-  pub start-word : {form : Form} {k : ℕ} → form ≡ Word k → form ≡ formOf true tokens bytes → length bytes ≡ startOf tokens bytes
-  start-word g e = start-by (sym e ∙ g)
+  pub start-word : {form : Form} {k : ℕ} → form ≡ Word k → length bytes ≡ startBy form bytes
+  start-word e = start-by e
+
+  pub start-of : (tokens : ℕ) {form : Form} → form ≡ formOf true tokens bytes → startBy form bytes ≡ startOf tokens bytes
+  unfolding startOf
+  start-of tokens e = ap (λ f. startBy f bytes) e
 
 module _ (bytes : List ℕ) (at : ℕ) where
   pub size-part : partAt Good bytes at ≡ take (sizeAt bytes at) (drop at bytes)

@@ -18,7 +18,8 @@ use Rattle.journal.specs.Instants.{instantsIn, span}
 use Rattle.journal.proofs.Parts.{instants-step, instants-end, part-starts, span-positive, starts-some, good-starts, good-four}
 use Rattle.reader.specs.Reading.{startOf, sizeAt, shownAt, placeAfter, readerAt, movedBy}
 use Rattle.reader.specs.Through.{showing, through, Along, GoesThrough, TurnedDown}
-use Rattle.reader.proofs.Places.{start-good, start-bytes, start-word, size-fits, size-shown, place-here}
+use Rattle.reader.proofs.Numbers.{form-meets}
+use Rattle.reader.proofs.Places.{start-good, start-of, size-fits, size-shown, place-here}
 
 -- ---- one instant
 
@@ -85,11 +86,11 @@ module _ (bytes : List ℕ) (at : ℕ) where
 still : (bytes : List ℕ) (at : ℕ) → sizeAt bytes at ≡ 0 → (k : ℕ) → shownAt bytes (placeAfter k bytes at) ≡ []
 still bytes at e k = ap (shownAt bytes) (sym (place-here k bytes at e)) ∙ ap (λ n. take n (drop at bytes)) e
 
-module _ (j : RefT (List ℕ)) where
+module _ (j : RefT (List ℕ)) (form : Form) where
   abbrev bytes : List ℕ
   bytes = now j
 
-  none : (at : ℕ) → length bytes ≤ at → Along 0 (readerAt j at) (drop at bytes)
+  none : (at : ℕ) → length bytes ≤ at → Along 0 (readerAt j at form) (drop at bytes)
   unfolding through flatten
   none at end =
       let short : length (drop at bytes) < 4 = omega (arith, length-drop at bytes, end) in
@@ -101,8 +102,8 @@ module _ (j : RefT (List ℕ)) where
         past = λ k h. still bytes at (size-end bytes at end) k;
       }
 
-  module _ (n at : ℕ) (a : At bytes at) (more : at < length bytes) (later : Along n (readerAt j (at + sizeAt bytes at)) (drop (at + sizeAt bytes at) bytes)) where
-    one-more : Along (suc n) (readerAt j at) (drop at bytes)
+  module _ (n at : ℕ) (a : At bytes at) (more : at < length bytes) (later : Along n (readerAt j (at + sizeAt bytes at) form) (drop (at + sizeAt bytes at) bytes)) where
+    one-more : Along (suc n) (readerAt j at form) (drop at bytes)
     unfolding through placeAfter flatten
     one-more = record {
       instants = ap (λ l. words (shownAt bytes at) ∷ l) (later .instants) ∙ sym (first bytes at a more);
@@ -112,19 +113,19 @@ module _ (j : RefT (List ℕ)) where
       past = past;
     }
       where
-        each : (k : ℕ) → k < suc n → showing (movedBy k (readerAt j at)) ≡ getD (through (suc n) (readerAt j at)) k []
+        each : (k : ℕ) → k < suc n → showing (movedBy k (readerAt j at form)) ≡ getD (through (suc n) (readerAt j at form)) k []
         each zero h = refl
         each (suc k) h = later .each k (omega arith)
 
-        some : (k : ℕ) → k < suc n → 4 ≤ length (showing (movedBy k (readerAt j at)))
+        some : (k : ℕ) → k < suc n → 4 ≤ length (showing (movedBy k (readerAt j at form)))
         some zero h = omega (arith, size-shown bytes at, size-some bytes at a more)
         some (suc k) h = later .some k (omega arith)
 
-        past : (k : ℕ) → suc n ≤ k → showing (movedBy k (readerAt j at)) ≡ []
+        past : (k : ℕ) → suc n ≤ k → showing (movedBy k (readerAt j at form)) ≡ []
         past zero h = absurd (omega arith)
         past (suc k) h = later .past k (omega arith)
 
-  along : (n at : ℕ) → At bytes at → length (instantsIn (words (drop at bytes))) ≡ n → Along n (readerAt j at) (drop at bytes)
+  along : (n at : ℕ) → At bytes at → length (instantsIn (words (drop at bytes))) ≡ n → Along n (readerAt j at form) (drop at bytes)
   along zero at a e = none at (ended bytes at a e)
   along (suc n) at a e =
       let more = goes-on bytes at a n e in
@@ -132,13 +133,19 @@ module _ (j : RefT (List ℕ)) where
 
 pub goes-through : GoesThrough
 goes-through tokens j good =
-    subst (λ at. Along (length (instantsIn (words (now j)))) (readerAt j at) (now j)) (start-good tokens (now j) good refl)
-    (along j (length (instantsIn (words (now j)))) 0 (record { aligned = refl; four = good-four true tokens (now j) good; starts = good-starts true tokens (now j) good }) refl)
+    subst (λ at. Along (length (instantsIn (words (now j)))) (readerAt j at (formOf true tokens (now j))) (now j)) (start-good (now j) good ∙ start-of (now j) tokens refl)
+    (along j (formOf true tokens (now j)) (length (instantsIn (words (now j)))) 0 (record { aligned = refl; four = good-four true tokens (now j) good; starts = good-starts true tokens (now j) good }) refl)
 
 pub turned-down : TurnedDown
-turned-down tokens j against = still (now j) (startOf tokens (now j)) (size-end (now j) (startOf tokens (now j)) (past (formOf true tokens (now j)) refl))
+turned-down tokens j k = (
+  refl,
+  λ against. record {
+    empty = still (now j) (startOf tokens (now j)) (size-end (now j) (startOf tokens (now j)) (past against (formOf true tokens (now j)) refl)) k;
+    meets = form-meets tokens (now j) (formOf true tokens (now j)) refl against;
+  },
+)
   where
-    past : (f : Form) → f ≡ formOf true tokens (now j) → length (now j) ≤ startOf tokens (now j)
-    past Good e = absurd (against (sym e))
-    past Bytes e = omega (arith, start-bytes tokens (now j) refl e)
-    past (Word k) e = omega (arith, start-word tokens (now j) refl e)
+    past : (formOf true tokens (now j) ≡ Good → ⊥) → (f : Form) → f ≡ formOf true tokens (now j) → length (now j) ≤ startOf tokens (now j)
+    past against Good e = absurd (against (sym e))
+    past against Bytes e = omega (arith, start-of (now j) tokens e)
+    past against (Word w) e = omega (arith, start-of (now j) tokens e)

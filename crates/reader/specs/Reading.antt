@@ -1,13 +1,16 @@
 -- "A journal reader shows each instant's words as a part of the journal's own bytes, uncopied, and past the last instant an
--- empty part; a journal that meets 12 or 13 is turned down so, with an empty part."
+-- empty part; a journal that meets 12 or 13 is turned down so, with an empty part." By which of the two, its form says: "list
+-- or journal bytes not a multiple of 4", number 12; "list or journal word against its form, or token T or above", number 13
+-- and the word.
+--     numberOf, wordOf     the number by which a form is turned down, and the word; 0 where there is none
 --     startBy, startOf     where a reader starts: at the first instant, or past the last where the journal is against its form
 --     sizeAt         how many bytes it shows at a position: up to the next instant word or the end
 --     shownAt        what it shows there
 --     placeAfter     the position so many instants further on
 --     placeOf        the position of instant k
---     readerAt       a reader of a journal at a position
+--     readerAt       a reader of a journal at a position, with the journal's form
 --     made           the reader that is made of a journal
---     movedBy        the reader, moved on by so many instants
+--     movedBy        the reader, moved on by so many instants: its form is kept
 use mathlib.Core.Bool.{true, cond}
 use mathlib.Core.List.{List}
 use Prim.Native.Nat.{ℕ, zero, suc, _+_, _*_, _%_}
@@ -20,6 +23,16 @@ use Rattle.journal.specs.declared.Form.the-variants.{Good, Bytes, Word}
 use Rattle.journal.specs.Form.{formOf}
 use Rattle.journal.specs.Instants.{span}
 use Rattle.reader.specs.declared.Reader.{Reader}
+
+abbrev pub numberOf : Form → ℕ
+numberOf Good = 0
+numberOf Bytes = 12
+numberOf (Word k) = 13
+
+abbrev pub wordOf : Form → ℕ
+wordOf Good = 0
+wordOf Bytes = 0
+wordOf (Word k) = k
 
 abbrev pub startBy : Form → List ℕ → ℕ
 startBy Good bytes = 0
@@ -42,11 +55,11 @@ placeAfter (suc n) bytes at = placeAfter n bytes (at + sizeAt bytes at)
 abbrev pub placeOf : ℕ → ℕ → List ℕ → ℕ
 placeOf tokens k bytes = placeAfter k bytes (startOf tokens bytes)
 
-abbrev pub readerAt : RefT (List ℕ) → ℕ → Reader
-readerAt journal at = record { journal = journal; at = at }
+abbrev pub readerAt : RefT (List ℕ) → ℕ → Form → Reader
+readerAt journal at form = record { journal = journal; at = at; form = form }
 
 abbrev pub made : ℕ → RefT (List ℕ) → Reader
-made tokens journal = readerAt journal (startOf tokens (now journal))
+made tokens journal = readerAt journal (startOf tokens (now journal)) (formOf true tokens (now journal))
 
 abbrev pub movedBy : ℕ → Reader → Reader
-movedBy n r = readerAt (r .journal) (placeAfter n (now (r .journal)) (r .at))
+movedBy n r = readerAt (r .journal) (placeAfter n (now (r .journal)) (r .at)) (r .form)

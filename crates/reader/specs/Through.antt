@@ -4,18 +4,22 @@
 --     Along          a reader goes along bytes
 --     GoesThrough    a journal of good form: its instants, exactly and in order; their parts put together are the journal;
 --                    past the last an empty part
---     TurnedDown     a journal that meets 12 or 13: an empty part, however far the reader is moved on
+--     Against        word k is the lowest word against its form, after a given word
+--     Meets          bytes meet the number 12, or 13 with a word: the table's rows
+--     Turned         a reader turns its journal down: with an empty part, and by the number and the word that the journal meets
+--     TurnedDown     a reader's form is its journal's, however far it is moved on, so that it is good of a journal of good form
+--                    alone, which `GoesThrough` speaks of; and any other journal is turned down
 use mathlib.Core.Path.{_≡_}
-use mathlib.Core.Bool.{true}
+use mathlib.Core.Bool.{true, false}
 use mathlib.Core.List.{List, [], _∷_, map, flatten}
-use Prim.Native.Nat.{ℕ, zero, suc, _<_, _≤_}
+use Prim.Native.Nat.{ℕ, zero, suc, _%_, _<_, _≤_}
 use lib.ListN.{length, getD}
 use denote.Ref.{RefT, now}
 use Rattle.words.specs.Word.{words}
 use Rattle.journal.specs.declared.Form.the-variants.{Good}
-use Rattle.journal.specs.Form.{formOf}
+use Rattle.journal.specs.Form.{mayFollow, formOf}
 use Rattle.journal.specs.Instants.{instantsIn}
-use Rattle.reader.specs.Reading.{shownAt, made, movedBy}
+use Rattle.reader.specs.Reading.{numberOf, wordOf, shownAt, made, movedBy}
 use Rattle.reader.specs.declared.Reader.{Reader}
 
 abbrev pub showing : Reader → List ℕ
@@ -36,5 +40,22 @@ pub record Along (n : ℕ) (r : Reader) (bytes : List ℕ) : Type 0 where
 abbrev pub GoesThrough : Type 0
 GoesThrough = (tokens : ℕ) (journal : RefT (List ℕ)) → formOf true tokens (now journal) ≡ Good → Along (length (instantsIn (words (now journal)))) (made tokens journal) (now journal)
 
+pub record Against (tokens last : ℕ) (ws : List ℕ) (k : ℕ) : Type 0 where
+  pub within : k < length ws
+  pub against : mayFollow true tokens (getD (last ∷ ws) k 0) (getD ws k 0) ≡ false
+  pub lowest : (i : ℕ) → i < k → mayFollow true tokens (getD (last ∷ ws) i 0) (getD ws i 0) ≡ true
+
+-- the word before the first is 0, which is of no kind
+pub data Meets (tokens : ℕ) (bytes : List ℕ) : ℕ → ℕ → Type 0 where
+  twelve : (length bytes % 4 ≡ 0 → ⊥) → Meets tokens bytes 12 0
+  thirteen : {k : ℕ} → length bytes % 4 ≡ 0 → Against tokens 0 (words bytes) k → Meets tokens bytes 13 k
+
+pub record Turned (tokens : ℕ) (bytes : List ℕ) (r : Reader) : Type 0 where
+  pub empty : showing r ≡ []
+  pub meets : Meets tokens bytes (numberOf (r .form)) (wordOf (r .form))
+
 abbrev pub TurnedDown : Type 0
-TurnedDown = (tokens : ℕ) (journal : RefT (List ℕ)) → (formOf true tokens (now journal) ≡ Good → ⊥) → (k : ℕ) → showing (movedBy k (made tokens journal)) ≡ []
+TurnedDown =
+    (tokens : ℕ) (journal : RefT (List ℕ)) (k : ℕ) →
+    (movedBy k (made tokens journal) .form ≡ formOf true tokens (now journal))
+    × ((formOf true tokens (now journal) ≡ Good → ⊥) → Turned tokens (now journal) (movedBy k (made tokens journal)))

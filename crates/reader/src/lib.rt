@@ -1,20 +1,24 @@
 ghost use mathlib.Core.Path.{_≡_};
+ghost use mathlib.Core.Bool.{true};
 ghost use lib.ListN.{take, drop};
-ghost use Rattle.reader.specs.Reading.{startOf, sizeAt, placeAfter, placeOf, made, movedBy};
+ghost use Rattle.journal.specs.Form.{formOf};
+ghost use Rattle.reader.specs.Reading.{startBy, sizeAt, placeAfter, placeOf, made, movedBy};
 use journal::Form;
 
-// A journal, and the position of the instant that is shown next.
+// A journal, the position of the instant that is shown next, and the journal's form: by which number it is turned down.
 pub struct Reader<'a> {
     journal: &'a [u8],
     at: usize,
+    form: Form,
 }
 
 // A reader of a journal, of a score with so many tokens.
 pub fn new<'a>(journal: &'a [u8], tokens: usize) -> Reader<'a>
     ensures { λ r. ⌜ r ≡ made tokens (journal .entry) ⌝ }
 {
-    let at = start_of(journal, tokens);
-    Reader { journal, at }
+    let form = form_of(journal, tokens);
+    let at = start_of(journal, form);
+    Reader { journal, at, form }
 }
 
 // The words of the next instant, as a part of the journal's bytes; none past the last.
@@ -32,7 +36,15 @@ pub fn moved<'a>(r: Reader<'a>, instants: usize) -> Reader<'a>
     Reader {
         journal: r.journal,
         at,
+        form: r.form,
     }
+}
+
+// The form of a reader's journal, however far it was moved on: by which number it is turned down.
+pub fn form<'a>(r: Reader<'a>) -> Form
+    ensures { λ f. ⌜ f ≡ r .entry .form ⌝ }
+{
+    r.form
 }
 
 // The words of instant `k` of a journal; none past the last, or where the journal is against its form.
@@ -42,11 +54,18 @@ pub fn instant(journal: &[u8], tokens: usize, k: usize) -> &[u8]
     shown(moved(new(journal, tokens), k))
 }
 
-// Where a reader starts: at the first instant, or past the last where the journal is against its form.
-fn start_of(journal: &[u8], tokens: usize) -> usize
-    ensures { λ r. ⌜ r ≡ startOf tokens (now (journal .entry)) ⌝ }
+// The form of a journal: by which number a reader of it turns it down.
+pub fn form_of(journal: &[u8], tokens: usize) -> Form
+    ensures { λ r. ⌜ r ≡ formOf true tokens (now (journal .entry)) ⌝ }
 {
-    match journal::form_of(journal, tokens, true) {
+    journal::form_of(journal, tokens, true)
+}
+
+// Where a reader starts, by the form: at the first instant, or past the last where the journal is against its form.
+fn start_of(journal: &[u8], form: Form) -> usize
+    ensures { λ r. ⌜ r ≡ startBy form (now (journal .entry)) ⌝ }
+{
+    match form {
         Form::Good => 0,
         Form::Bytes => journal.len(),
         Form::Word(_) => journal.len(),

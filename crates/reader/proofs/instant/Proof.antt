@@ -34,7 +34,7 @@ use denote.Triple.Table.{entered, cited}
 use denote.Triple.Walked.{says, Stays, stay-none, stay-none-slice, walkOf, goes-none, goes-none-slice, Walks, ends-at, walked, walk-meets}
 use denote.Exit.{yes}
 use denote.Triple.Clauses.{ensured, lasts}
-use Rattle.reader.specs.Reading.{startOf, shownAt, placeAfter, placeOf, readerAt}
+use Rattle.reader.specs.Reading.{shownAt, placeOf, made, movedBy}
 use Rattle.reader.specs.declared.Reader.{Reader}
 use Rattle.reader.proofs.Reader as T
 use Rattle.reader.proofs.Reader.Laws as T′
@@ -91,7 +91,7 @@ module _ {M : Type 1} (𝓤 : URA M) (H : Heap 𝓤) (A : Atoms 𝓤) (W : Given
   to-new = (((κ, tt), (q, tt), tt, (j, (n, tt)), new-vals), tt)
 
   abbrev Made : Reader → Type 0
-  Made r = r ≡ readerAt j (startOf n (now j))
+  Made r = r ≡ made n j
 
   asks-new : ent 𝓤 (onEntry 𝓤 H A new.signature (κ, tt) (q, tt) (j, (n, tt)) new-vals) (New 𝓤 H A mem run .pre to-new)
   asks-new = qed W ((‵ (flft κ q) ⊛ ‵ ftrue) ∷ ‵ (owns (ShrSlice (named 0) κ u8 ∷ usize ∷ []) (j, (n, tt)) new-vals) ∷ []) ∵ join ! $ frame ! $ done !
@@ -111,16 +111,13 @@ module _ {M : Type 1} (𝓤 : URA M) (H : Heap 𝓤) (A : Atoms 𝓤) (W : Given
   abbrev to-moved : Reader → Val → Moved 𝓤 H A mem run .Ghost
   to-moved r u = (((κ, tt), (q, tt), tt, (r, (k, tt)), (u ∷ [], (vint w64 k ∷ [], tt))), tt)
 
-  abbrev further : Reader → Reader
-  further r = readerAt (r .journal) (placeAfter k (now (r .journal)) (r .at))
-
   goes-moved : (r : Reader) (u : Val) → ent 𝓤 (⋆ 𝓤 H A (‵ (B .own r (u ∷ [])) ∷ (‵ (flft κ q) ⊛ ‵ ftrue) ∷ [])) (Moved 𝓤 H A mem run .pre (to-moved r u))
   goes-moved r u =
       qed W (‵ (B .own r (u ∷ [])) ∷ (‵ (flft κ q) ⊛ ‵ ftrue) ∷ []) ∵
       nothing ! $ owned ! usize (Is usize) (uint-makes 𝓤 H A W w64) k _ (refl, k-fits) $ fjoin ! $ move ! (1 ∷ 0 ∷ []) $ fjoin ! $ move ! (1 ∷ 0 ∷ []) $ join ! $ frame ! $ done !
 
-  moved-said : (r r′ : Reader) → ent 𝓤 (ensured 𝓤 H A moved.ended (moved.clauses 𝓤 H A mem run) (κ, tt) (r, (k, tt)) tt r′) (fact 𝓤 (r′ ≡ further r))
-  moved-said r r′ = exE 𝓤 _ (λ ws. snd∗ 𝓤 (sem 𝓤 H A (lasts moved.ended (κ, tt) (r, (k, tt)) ws)) (fact 𝓤 (r′ ≡ further r)))
+  moved-said : (r r′ : Reader) → ent 𝓤 (ensured 𝓤 H A moved.ended (moved.clauses 𝓤 H A mem run) (κ, tt) (r, (k, tt)) tt r′) (fact 𝓤 (r′ ≡ movedBy k r))
+  moved-said r r′ = exE 𝓤 _ (λ ws. snd∗ 𝓤 (sem 𝓤 H A (lasts moved.ended (κ, tt) (r, (k, tt)) ws)) (fact 𝓤 (r′ ≡ movedBy k r)))
 
   -- the call of `shown`
   abbrev to-shown : Reader → Val → Shown 𝓤 H A mem run .Ghost
@@ -159,7 +156,7 @@ module _ {M : Type 1} (𝓤 : URA M) (H : Heap 𝓤) (A : Atoms 𝓤) (W : Given
         use2 W (raw (Moved 𝓤 H A mem run .pre (to-moved r u))) (goes-moved r u) $
         calls-at ! fm (Moved 𝓤 H A mem run) knows-moved (to-moved r u) (and-then ! (load ! (from ! (stop !)) (look ! 2 refl)) (and-then ! (load ! (from ! (stop !)) (look ! 6 refl)) (no-more !))) (λ u′.
         use1 W (later (some (λ (r′ : Reader). ((‵ (flft κ q) ⊛ ‵ ftrue) ⊛ ‵ (B .own r′ (u′ ∷ []))) ⊛ raw (ensured 𝓤 H A moved.ended (moved.clauses 𝓤 H A mem run) (κ, tt) (r, (k, tt)) tt r′)))) (id⊢ 𝓤 _) $ await ! tt $ pick ! (λ r′.
-        split ! $ move ! (1 ∷ []) $ use1 W (raw (fact 𝓤 (r′ ≡ further r))) (moved-said r r′) $ heard ! (r′ ≡ further r) (λ e′. split ! $ move ! (1 ∷ []) $
+        split ! $ move ! (1 ∷ []) $ use1 W (raw (fact 𝓤 (r′ ≡ movedBy k r))) (moved-said r r′) $ heard ! (r′ ≡ movedBy k r) (λ e′. split ! $ move ! (1 ∷ []) $
         peeks ! B (Is B) (shows 𝓤 H A B) r′ (u′ ∷ []) (λ is′.
         land ! (from ! (stop !)) (init ! 5 refl (LL.lawful (T.the-type αᵉ) (T′.the-laws αᵉ) 𝓤 H A W .typed r′ _ is′ .0)) $
         use2 W (raw (Shown 𝓤 H A mem run .pre (to-shown r′ u′))) (goes-shown r′ u′) $
@@ -171,7 +168,7 @@ module _ {M : Type 1} (𝓤 : URA M) (H : Heap 𝓤) (A : Atoms 𝓤) (W : Given
         land ! (from ! (stop !)) (init ! 13 refl (shr-slice-lawful 𝓤 H A W (named 0) κ u8 .typed s _ is″ .0)) $
         returns ! (look ! 13 refl) $ forget ! 3 refl $ forget ! 5 refl $ forget ! 7 refl $ forget ! 9 refl $ forget ! 11 refl $ forget ! 13 refl $
         move ! (13 ∷ 14 ∷ []) $ free1 ! $ move ! (11 ∷ 12 ∷ []) $ free1 ! $ move ! (9 ∷ 10 ∷ []) $ free1 ! $ move ! (7 ∷ 8 ∷ []) $ free1 ! $ move ! (5 ∷ 6 ∷ []) $ free1 ! $ move ! (3 ∷ 4 ∷ []) $ free1 ! $ free0 ! $
-        by ! (exits s w (e″ ∙ ap showing (e′ ∙ ap further e)))))))))))))))))))))
+        by ! (exits s w (e″ ∙ ap showing (e′ ∙ ap (movedBy k) e)))))))))))))))))))))
 
 module _ {M : Type 1} (𝓤 : URA M) (H : Heap 𝓤) (A : Atoms 𝓤) (W : Given 𝓤 H A) (mem : Memory → SProp 𝓤) (run : Routine → Fun 𝓤) where
   walks : (C : Calls 𝓤 H) (Λ : Loops 𝓤 H) → FmC 𝓤 H (W .laws) C → Triple 𝓤 (C #new) (New 𝓤 H A mem run) → Triple 𝓤 (C #moved) (Moved 𝓤 H A mem run) → Triple 𝓤 (C #shown) (Shown 𝓤 H A mem run)
