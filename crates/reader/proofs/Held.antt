@@ -30,7 +30,7 @@ use denote.Laws.{Is, Tells, Makes, Lawful}
 use denote.Plain.{uint-makes}
 use denote.Builtin.{u8, usize}
 use denote.Enum.Laws as EL
-use denote.Ref.{RefT, NamedLft}
+use denote.Ref.{RefT}
 use denote.Signature.{namedLft}
 use denote.Slice.{sliceVal, ShrSlice, shr-slice-copy}
 use denote.Steps.{owned, nothing}

@@ -2,6 +2,7 @@
 --     against-more     one word more before the lowest word against its form
 --     against-first    the word that the form names is the lowest against it
 --     never-bytes      the form of words is never that of broken ones
+--     word-meets       bytes whose form names a word meet 13 with it
 --     form-meets       bytes that are not of good form meet their form's number, with its word
 use mathlib.Core.Path.{_≡_, refl, sym, ap, subst, _∙_}
 use mathlib.Core.Bool.{Bool, true, false, cond}

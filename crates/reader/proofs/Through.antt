@@ -80,11 +80,27 @@ module _ (bytes : List ℕ) (at : ℕ) where
         go true t = ltb-true at (length bytes) t
         go false t = let short : length (drop at bytes) < 4 = omega (arith, length-drop at bytes, ltb-false at (length bytes) t) in absurd (omega (arith, e, ap length (instants-end (drop at bytes) short)))
 
--- ---- all of them
+-- ---- a journal that is turned down
 
 -- where nothing is shown, nothing is shown further on
 still : (bytes : List ℕ) (at : ℕ) → sizeAt bytes at ≡ 0 → (k : ℕ) → shownAt bytes (placeAfter k bytes at) ≡ []
 still bytes at e k = ap (shownAt bytes) (sym (place-here k bytes at e)) ∙ ap (λ n. take n (drop at bytes)) e
+
+pub turned-down : TurnedDown
+turned-down tokens j k = (
+  refl,
+  λ against. record {
+    empty = still (now j) (startOf tokens (now j)) (size-end (now j) (startOf tokens (now j)) (past against (formOf true tokens (now j)) refl)) k;
+    meets = form-meets tokens (now j) (formOf true tokens (now j)) refl against;
+  },
+)
+  where
+    past : (formOf true tokens (now j) ≡ Good → ⊥) → (f : Form) → f ≡ formOf true tokens (now j) → length (now j) ≤ startOf tokens (now j)
+    past against Good e = absurd (against (sym e))
+    past against Bytes e = omega (arith, start-of (now j) tokens e)
+    past against (Word w) e = omega (arith, start-of (now j) tokens e)
+
+-- ---- all instants
 
 module _ (j : RefT (List ℕ)) (form : Form) where
   abbrev bytes : List ℕ
@@ -135,17 +151,3 @@ pub goes-through : GoesThrough
 goes-through tokens j good =
     subst (λ at. Along (length (instantsIn (words (now j)))) (readerAt j at (formOf true tokens (now j))) (now j)) (start-good (now j) good ∙ start-of (now j) tokens refl)
     (along j (formOf true tokens (now j)) (length (instantsIn (words (now j)))) 0 (record { aligned = refl; four = good-four true tokens (now j) good; starts = good-starts true tokens (now j) good }) refl)
-
-pub turned-down : TurnedDown
-turned-down tokens j k = (
-  refl,
-  λ against. record {
-    empty = still (now j) (startOf tokens (now j)) (size-end (now j) (startOf tokens (now j)) (past against (formOf true tokens (now j)) refl)) k;
-    meets = form-meets tokens (now j) (formOf true tokens (now j)) refl against;
-  },
-)
-  where
-    past : (formOf true tokens (now j) ≡ Good → ⊥) → (f : Form) → f ≡ formOf true tokens (now j) → length (now j) ≤ startOf tokens (now j)
-    past against Good e = absurd (against (sym e))
-    past against Bytes e = omega (arith, start-of (now j) tokens e)
-    past against (Word w) e = omega (arith, start-of (now j) tokens e)

@@ -4,7 +4,7 @@
 --     Along          a reader goes along bytes
 --     GoesThrough    a journal of good form: its instants, exactly and in order; their parts put together are the journal;
 --                    past the last an empty part
---     Against        word k is the lowest word against its form, after a given word
+--     Against        word k is the lowest word against its form; a given word stands before the first
 --     Meets          bytes meet the number 12, or 13 with a word: the table's rows
 --     Turned         a reader turns its journal down: with an empty part, and by the number and the word that the journal meets
 --     TurnedDown     a reader's form is its journal's, however far it is moved on, so that it is good of a journal of good form
@@ -45,7 +45,7 @@ pub record Against (tokens last : ℕ) (ws : List ℕ) (k : ℕ) : Type 0 where
   pub against : mayFollow true tokens (getD (last ∷ ws) k 0) (getD ws k 0) ≡ false
   pub lowest : (i : ℕ) → i < k → mayFollow true tokens (getD (last ∷ ws) i 0) (getD ws i 0) ≡ true
 
--- the word before the first is 0, which is of no kind
+-- before the first word stands 0, which is of no kind
 pub data Meets (tokens : ℕ) (bytes : List ℕ) : ℕ → ℕ → Type 0 where
   twelve : (length bytes % 4 ≡ 0 → ⊥) → Meets tokens bytes 12 0
   thirteen : {k : ℕ} → length bytes % 4 ≡ 0 → Against tokens 0 (words bytes) k → Meets tokens bytes 13 k

@@ -1,3 +1,6 @@
+// A reader of journals. Who sees an empty part asks for the journal's form, by `form` of a reader, and by `form_of` beside
+// `instant`: `Good` is past the last instant, `Bytes` turned down by 12, `Word(k)` turned down by 13 at word k. `form_of` is
+// `journal::form_of` for a journal, under a name of the reader's.
 ghost use mathlib.Core.Path.{_≡_};
 ghost use mathlib.Core.Bool.{true};
 ghost use lib.ListN.{take, drop};
@@ -5,7 +8,7 @@ ghost use Rattle.journal.specs.Form.{formOf};
 ghost use Rattle.reader.specs.Reading.{startBy, sizeAt, placeAfter, placeOf, made, movedBy};
 use journal::Form;
 
-// A journal, the position of the instant that is shown next, and the journal's form: by which number it is turned down.
+// A journal, the position of the instant that is shown next, and the journal's form.
 pub struct Reader<'a> {
     journal: &'a [u8],
     at: usize,
@@ -40,14 +43,14 @@ pub fn moved<'a>(r: Reader<'a>, instants: usize) -> Reader<'a>
     }
 }
 
-// The form of a reader's journal, however far it was moved on: by which number it is turned down.
+// The form of a reader's journal, however far the reader was moved on: by which number it turns the journal down.
 pub fn form<'a>(r: Reader<'a>) -> Form
     ensures { λ f. ⌜ f ≡ r .entry .form ⌝ }
 {
     r.form
 }
 
-// The words of instant `k` of a journal; none past the last, or where the journal is against its form.
+// The words of instant `k` of a journal; none past the last, or where the journal is against its form: `form_of` tells which.
 pub fn instant(journal: &[u8], tokens: usize, k: usize) -> &[u8]
     ensures { λ s. ⌜ now s ≡ take (sizeAt (now (journal .entry)) (placeOf tokens k (now (journal .entry)))) (drop (placeOf tokens k (now (journal .entry))) (now (journal .entry))) ⌝ }
 {

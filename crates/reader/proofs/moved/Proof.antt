@@ -1,4 +1,4 @@
--- `moved`: the reader is taken apart, `after` is called on the journal and the position, and a reader is made of the journal and what it says. All that is known of `after` is its contract.
+-- `moved`: the reader is taken apart, `after` is called on the journal and the position, and a reader is made of the journal, what it says and the form. All that is known of `after` is its contract.
 use mathlib.Core.Path.{_≡_, refl, ap}
 use mathlib.Core.List.{[], _∷_}
 use Prim.Native.Nat.{ℕ, _<_, _^_}
