@@ -7,8 +7,9 @@ use Prim.Native.Nat.{ℕ}
 use borrow.Author.Tests.{eq-eqb, ne-eqb}
 use lib.ListN.{length}
 use Rattle.format.specs.Decode.{sizes}
-use Rattle.scorefile.specs.declared.Verdict.{Verdict}
-use Rattle.scorefile.specs.Check.{numberOf, verdict}
+use Rattle.verdicts.specs.declared.Verdict.{Verdict}
+use Rattle.verdicts.specs.Verdicts.{numberOf}
+use Rattle.scorefile.specs.Check.{verdict}
 use Rattle.instant.specs.InstantCall.{scratchBytes, noScratch}
 use Rattle.journal.specs.declared.Form.the-variants.{Good, Bytes, Word}
 use Rattle.journal.specs.Form.{formOf}

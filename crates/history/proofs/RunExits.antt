@@ -9,9 +9,10 @@ use borrow.Author.Tests.{eq-eqb, ne-eqb}
 use lib.Dec.{eqb}
 use lib.ListN.{length}
 use Rattle.format.specs.Decode.{sizes}
-use Rattle.scorefile.specs.declared.Verdict.{Verdict}
-use Rattle.scorefile.specs.Check.{numberOf, verdict}
-use Rattle.scorefile.proofs.Accepted.{neither}
+use Rattle.verdicts.specs.declared.Verdict.{Verdict}
+use Rattle.verdicts.specs.Verdicts.{numberOf}
+use Rattle.scorefile.specs.Check.{verdict}
+use Rattle.faults.proofs.Accepted.{neither}
 use Rattle.lent.specs.States.{stateBytes, stateFault}
 use Rattle.instant.specs.InstantCall.{scratchBytes, noScratch}
 use Rattle.instant.proofs.Exits.{right}

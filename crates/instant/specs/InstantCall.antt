@@ -17,7 +17,8 @@ use Rattle.tcc.specs.Sets.{any}
 use Rattle.tcc.specs.Score.{Score}
 use Rattle.tcc.specs.Instant.{Answer, count, output, answer, after}
 use Rattle.format.specs.Decode.{sizes, decode}
-use Rattle.scorefile.specs.Check.{numberOf, verdict}
+use Rattle.verdicts.specs.Verdicts.{numberOf}
+use Rattle.scorefile.specs.Check.{verdict}
 use Rattle.lent.specs.Maps.{mapBytes, tokensIn, mapOf}
 use Rattle.lent.specs.States.{stateBytes, stateFault, stateOf, asBytes}
 use Rattle.instant.specs.declared.Reply.{Reply}
