@@ -1,9 +1,12 @@
 -- `wordfaults::root_verdict`: the form, then the root.
 use mathlib.Core.Path.{sym, _∙_}
+use mathlib.Core.List.{[]}
 use native.Mathlib.Omega.{arith}
 use borrow.Author.Tests.{le-leb, lt-leb, not-true, not-false}
+use lib.Dec.{leb}
 use Rattle.words.specs.Word.{field}
 use borrow.Author.Needs.{needs}
+use Rattle.wordfaults.proofs.AtWord.{form-first}
 use Rattle.wordfaults.proofs.root_verdict.Statement.{statement}
 use Rattle.wordfaults.proofs.root_verdict.Tie as tie
 
@@ -12,8 +15,8 @@ is-word-requires c κs = search needs
 
 returns : tie.Need-returns
 returns c =
-    let b = c .before .before in
-    rw (sym (c .before .is-word .ensures) ∙ not-true _ (c .if1 .taken))
+    let b = c .before .before .args in
+    form-first (b .sizes) (b .k) [] (leb (b .sizes .agents) (field (b .w) 0 10)) (sym (c .before .is-word .ensures) ∙ not-true _ (c .if1 .taken))
 
 number-requires : tie.Need-number-requires
 number-requires c κs = search needs
