@@ -52,7 +52,9 @@ module _ (sc : Score) (n : ℕ) (count : length (sc .roots) ≡ n) (few : n ≤ 
 
 pub circle-here : (sc : Score) (p n : ℕ) → p < n → circular sc p ≡ true → circleFrom sc p (n - p) ≡ Circle p
 unfolding circleFrom
-circle-here sc p n lt e = let k : n - p ≡ suc (n - (p + 1)) = omega arith in rw (k, e)
+circle-here sc p n lt e =
+    let k : n - p ≡ suc (n - (p + 1)) = omega arith in
+    rw k (ap (λ here. cond here (Circle p) (circleFrom sc (suc p) (n - (p + 1)))) e)
 
 pub circle-later : (sc : Score) (p n : ℕ) → p < n → circular sc p ≡ false → circleFrom sc p (n - p) ≡ circleFrom sc (p + 1) (n - (p + 1))
 unfolding circleFrom
