@@ -8,6 +8,7 @@ use format::Sizes;
 use tcc::Agent;
 use verdicts::Verdict;
 
+// Agent i, its word taken apart.
 pub fn agent_verdict(sizes: Sizes, i: usize, decoded: Decoded) -> Verdict
     requires { ⌜ i < 1024 ⌝ }
     ensures { λ r. ⌜ r ≡ agentVerdict sizes i decoded ⌝ }

@@ -11,6 +11,7 @@ const MOST_BYTES: usize = 5384;
 
 const MOST_RULES: usize = 256;
 
+// Row 1: the number of bytes.
 pub fn length_verdict(length: usize) -> Verdict
     ensures { λ r. ⌜ r ≡ lengthVerdict length ⌝ }
 {
@@ -26,6 +27,7 @@ pub fn length_verdict(length: usize) -> Verdict
     Verdict::Accepted
 }
 
+// Row 2: word 0.
 pub fn head_verdict(w: u32) -> Verdict
     ensures { λ r. ⌜ r ≡ headVerdict w ⌝ }
 {
@@ -36,6 +38,7 @@ pub fn head_verdict(w: u32) -> Verdict
     }
 }
 
+// Row 3: the number of words.
 pub fn count_verdict(sizes: Sizes, count: usize) -> Verdict
     requires { ⌜ sizes .agents ≤ 1024 ⌝ }
     requires { ⌜ sizes .procedures ≤ 64 ⌝ }
@@ -51,7 +54,7 @@ pub fn count_verdict(sizes: Sizes, count: usize) -> Verdict
     Verdict::Accepted
 }
 
-// The lowest word that is not as its place asks.
+// Rows 4 to 6: the lowest word that is not as its place asks.
 pub fn first_fault(s: &[u8], sizes: Sizes) -> Verdict
     requires { ⌜ sizes .agents ≤ 1024 ⌝ }
     requires { ⌜ sizes .procedures ≤ 64 ⌝ }

@@ -3,6 +3,7 @@ ghost use Rattle.wordfaults.specs.WordFaults.{portsVerdict, rootVerdict,
 use format::Sizes;
 use verdicts::Verdict;
 
+// Word k, as the ports.
 pub fn ports_verdict(sizes: Sizes, k: usize, w: u32) -> Verdict
     ensures { λ r. ⌜ r ≡ portsVerdict sizes k w ⌝ }
 {
@@ -23,6 +24,7 @@ pub fn ports_verdict(sizes: Sizes, k: usize, w: u32) -> Verdict
     Verdict::Accepted
 }
 
+// Word k, as a procedure.
 pub fn root_verdict(sizes: Sizes, k: usize, w: u32) -> Verdict
     ensures { λ r. ⌜ r ≡ rootVerdict sizes k w ⌝ }
 {
@@ -35,6 +37,7 @@ pub fn root_verdict(sizes: Sizes, k: usize, w: u32) -> Verdict
     Verdict::Accepted
 }
 
+// Word k, as a rule.
 pub fn rule_verdict(sizes: Sizes, k: usize, w: u32) -> Verdict
     ensures { λ r. ⌜ r ≡ ruleVerdict sizes k w ⌝ }
 {
