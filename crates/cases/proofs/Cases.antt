@@ -17,8 +17,11 @@ use Rattle.words.specs.Word.{words, wordAt, field}
 use Rattle.words.specs.Map.{inMap}
 use Rattle.format.specs.Format.{isWord, decodeAgent}
 use Rattle.format.specs.Decode.{sizes, decode}
-use Rattle.scorefile.specs.declared.Verdict.the-variants.{Length}
-use Rattle.scorefile.specs.Check.{numberOf, wordVerdict, firstFault, circleFrom, lengthVerdict, verdict}
+use Rattle.verdicts.specs.declared.Verdict.the-variants.{Length}
+use Rattle.verdicts.specs.Verdicts.{numberOf}
+use Rattle.faults.specs.Faults.{wordVerdict, firstFault, lengthVerdict}
+use Rattle.circles.specs.Circles.{circleFrom}
+use Rattle.scorefile.specs.Check.{verdict}
 use Rattle.lent.specs.Bits.{bitAt, bitsValue, bytesOf}
 use Rattle.lent.specs.Maps.{tokensIn}
 use Rattle.lent.specs.States.{agentsIn, stateFault, agentWords, asBytes, LawfulState}

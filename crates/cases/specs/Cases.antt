@@ -16,8 +16,8 @@ use Rattle.tcc.specs.Sets.{below, keep, has}
 use Rattle.tcc.specs.Score.{Score}
 use Rattle.tcc.specs.Weight.{weight}
 use Rattle.tcc.specs.Instant.{Answer, count, running, startState, answers}
-use Rattle.scorefile.specs.declared.Verdict.{Verdict}
-use Rattle.scorefile.specs.declared.Verdict.the-variants.{Accepted, Length, Token, Reference, Circle}
+use Rattle.verdicts.specs.declared.Verdict.{Verdict}
+use Rattle.verdicts.specs.declared.Verdict.the-variants.{Accepted, Length, Token, Reference, Circle}
 use Rattle.format.specs.Decode.{decode}
 use Rattle.scorefile.specs.Check.{verdict}
 use Rattle.lent.specs.States.{asBytes}

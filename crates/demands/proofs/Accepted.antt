@@ -18,8 +18,10 @@ use Rattle.tcc.specs.Instant.{Answer, answer, after}
 use Rattle.tcc.proofs.Sets.{any-some}
 use Rattle.format.specs.Decode.{sizes, decode}
 use Rattle.format.proofs.Decode.{decode-agents, decode-tokens, sizes-few}
-use Rattle.scorefile.specs.Check.{numberOf, verdict}
-use Rattle.scorefile.proofs.Accepted.{accepted-only, none-above}
+use Rattle.verdicts.specs.Verdicts.{numberOf}
+use Rattle.scorefile.specs.Check.{verdict}
+use Rattle.verdicts.proofs.Verdicts.{accepted-only}
+use Rattle.faults.proofs.Accepted.{none-above}
 use Rattle.scorefile.proofs.Lawful.{accepted-lawful, accepted-faultless}
 use Rattle.lent.specs.Maps.{tokensIn}
 use Rattle.lent.specs.States.{stateFault, stateOf, asBytes, LawfulState}

@@ -17,6 +17,7 @@ use Prim.Native.Nat.{ℕ}
 use native.Mathlib.Omega.{arith}
 use Rattle.tcc.specs.Instant.{output, after}
 use Rattle.format.specs.Decode.{sizes, decode}
+use Rattle.verdicts.specs.Verdicts as verdicts
 use Rattle.scorefile.specs.Check as check
 use Rattle.lent.specs.Maps.{tokensIn, mapOf}
 use Rattle.lent.specs.States.{stateFault, stateOf, asBytes, SameState}
@@ -44,7 +45,7 @@ madeBy score s inputs =
     }
 
 pub record IsInstant (score : List ℕ) (p : Answered) : Type 0 where
-  pub accepted : check.numberOf (check.verdict score) ≡ 0
+  pub accepted : verdicts.numberOf (check.verdict score) ≡ 0
   pub faultless : stateFault (sizes score .agents) (p .before) ≡ false
   pub known : Known score (p .inputs)
   pub is : p ≡ madeBy score (p .before) (p .inputs)

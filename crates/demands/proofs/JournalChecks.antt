@@ -13,6 +13,7 @@ use Rattle.tcc.specs.Instant.{startState, after}
 use Rattle.tcc.proofs.Sets.{Within, on-cons, on-map}
 use Rattle.format.specs.Decode.{sizes, decode}
 use Rattle.format.proofs.Decode.{decode-tokens}
+use Rattle.verdicts.specs.Verdicts as verdicts
 use Rattle.scorefile.specs.Check as check
 use Rattle.words.specs.Word.{words}
 use Rattle.lent.specs.Bits.{bytesOf}
@@ -52,7 +53,7 @@ zero-accepted score state read (ws ∷ more) =
     go false true r rest z = rest z
     go false false r rest z = absurd (omega arith)
 
-module _ (score : List ℕ) (accepted : check.numberOf (check.verdict score) ≡ 0) where
+module _ (score : List ℕ) (accepted : verdicts.numberOf (check.verdict score) ≡ 0) where
   pub start-stands : Stands score (lawful score accepted) (agents-counted score accepted) (asBytes (startState (decode score))) (startState (decode score))
   unfolding LawfulState
   start-stands =

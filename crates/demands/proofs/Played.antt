@@ -12,6 +12,7 @@ use lib.ListN.{length, replicate, length-replicate}
 use Rattle.tcc.specs.Instant.{after}
 use Rattle.format.specs.Decode.{sizes, decode}
 use Rattle.format.proofs.Decode.{decode-tokens, sizes-few}
+use Rattle.verdicts.specs.Verdicts as verdicts
 use Rattle.scorefile.specs.Check as check
 use Rattle.lent.specs.Lengths.{stateBytes, mapBytes, scratchBytes, noScratch}
 use Rattle.lent.specs.Maps.{tokensIn, mapOf}
@@ -44,7 +45,7 @@ module _ (score : List ℕ) where
   plays-linked rises none = linked.none
   plays-linked rises (then {inputs = inputs} at c n x) = linked.then at (played-instant (rises inputs (List·Memᴰ·head refl)) c n) (plays-linked (λ l m. rises l (List·Memᴰ·tail m)) x)
 
-  module _ (accepted : check.numberOf (check.verdict score) ≡ 0) where
+  module _ (accepted : verdicts.numberOf (check.verdict score) ≡ 0) where
     pub plays : (lists : List (List ℕ)) → Rises score lists → (s : List ℕ) → length s ≡ stateBytes → stateFault (sizes score .agents) s ≡ false → (played : List Answered) × (last : List ℕ) × Plays score s lists played last
     plays [] rises s long faultless = ([], s, none)
     plays (inputs ∷ more) rises s long faultless =

@@ -11,7 +11,8 @@ use Prim.Native.Nat.{ℕ, _*_}
 use lib.ListN.{length, take, drop}
 use Rattle.tcc.specs.Instant.{startState}
 use Rattle.format.specs.Decode.{decode}
-use Rattle.scorefile.specs.Check.{numberOf, verdict}
+use Rattle.verdicts.specs.Verdicts.{numberOf}
+use Rattle.scorefile.specs.Check.{verdict}
 use Rattle.lent.specs.Bits.{bytesOf}
 use Rattle.lent.specs.States.{asBytes}
 use Rattle.lent.specs.Lengths.{scratchBytes}

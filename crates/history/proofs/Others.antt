@@ -17,7 +17,7 @@ use Rattle.tcc.proofs.Sets.{true-is-false}
 use Rattle.words.specs.Word.{field}
 use Rattle.store.specs.Flags.{setOf, flagsOf}
 use Rattle.store.proofs.Flags.{flags-settled}
-use Rattle.scorefile.proofs.Accepted.{neither}
+use Rattle.faults.proofs.Accepted.{neither}
 use Rattle.journal.specs.Form.{statusOf}
 use Rattle.journal.specs.Instants.{tokensOf, inputsIn}
 use Rattle.journal.specs.History.{instantWords, Rising}

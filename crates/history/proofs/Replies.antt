@@ -11,7 +11,8 @@ use lib.Dec.{eqb}
 use lib.ListN.{length, length-map}
 use Rattle.tcc.specs.Instant.{startState, after}
 use Rattle.format.specs.Decode.{sizes, decode}
-use Rattle.scorefile.specs.Check.{numberOf, verdict}
+use Rattle.verdicts.specs.Verdicts.{numberOf}
+use Rattle.scorefile.specs.Check.{verdict}
 use Rattle.words.specs.Word.{words}
 use Rattle.words.proofs.Words.{words-length}
 use Rattle.lent.specs.States.{stateFault, asBytes}

@@ -9,11 +9,12 @@ use borrow.Author.Tests.{eq-eqb, ne-eqb}
 use lib.Dec.{eqb}
 use lib.ListN.{length}
 use Rattle.format.specs.Decode.{sizes}
-use Rattle.scorefile.specs.declared.Verdict.{Verdict}
-use Rattle.scorefile.specs.Check.{numberOf, verdict}
-use Rattle.scorefile.proofs.Accepted.{neither}
+use Rattle.scorefile.specs.Check.{verdict}
 use Rattle.lent.specs.Lengths.{stateBytes, scratchBytes, noScratch}
 use Rattle.lent.specs.States.{stateFault}
+use Rattle.verdicts.specs.declared.Verdict.{Verdict}
+use Rattle.verdicts.specs.Verdicts.{numberOf}
+use Rattle.faults.proofs.Accepted.{neither}
 use Rattle.instant.proofs.Exits.{right}
 use Rattle.journal.specs.declared.Form.the-variants.{Good, Bytes, Word}
 use Rattle.journal.specs.Form.{formOf}

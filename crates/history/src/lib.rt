@@ -24,8 +24,8 @@ ghost use Rattle.history.specs.JournalCheckCall.{JournalCheckCall};
 use format::Sizes;
 use instant::Standing;
 use journal::Form;
-use scorefile::Verdict;
 use store::Tokens;
+use verdicts::Verdict;
 
 // What a run or a journal check answers.
 pub enum Reply {
@@ -93,7 +93,7 @@ pub fn run(
     ensures { λ r. ⌜ RunCall (now (score .entry)) (now (inputs .entry)) (lent (now (state .entry)) (now (journal .entry)) (now (scratch .entry))) (lent (now (state .exit)) (now (journal .exit)) (now (scratch .exit))) r ⌝ }
 {
     let verdict = scorefile::check(score);
-    if scorefile::number_of(verdict) != 0 {
+    if verdicts::number_of(verdict) != 0 {
         return Reply::Score(verdict);
     }
     if wrong_length(state.len(), scratch.len()) {
@@ -263,7 +263,7 @@ pub fn journal_check(score: &[u8], journal: &[u8], scratch: &mut [u8]) -> Reply
     ensures { λ r. ⌜ JournalCheckCall (now (score .entry)) (now (journal .entry)) (now (scratch .entry)) (now (scratch .exit)) r ⌝ }
 {
     let verdict = scorefile::check(score);
-    if scorefile::number_of(verdict) != 0 {
+    if verdicts::number_of(verdict) != 0 {
         return Reply::Score(verdict);
     }
     if scratch.len() != lent::SCRATCH_BYTES {

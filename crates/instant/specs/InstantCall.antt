@@ -17,10 +17,11 @@ use Rattle.tcc.specs.Sets.{any}
 use Rattle.tcc.specs.Score.{Score}
 use Rattle.tcc.specs.Instant.{Answer, count, output, answer, after}
 use Rattle.format.specs.Decode.{sizes, decode}
-use Rattle.scorefile.specs.Check.{numberOf, verdict}
+use Rattle.scorefile.specs.Check.{verdict}
 use Rattle.lent.specs.Lengths.{stateBytes, mapBytes, scratchBytes, noScratch}
 use Rattle.lent.specs.Maps.{tokensIn, mapOf}
 use Rattle.lent.specs.States.{stateFault, stateOf, asBytes}
+use Rattle.verdicts.specs.Verdicts.{numberOf}
 use Rattle.instant.specs.declared.Reply.{Reply}
 use Rattle.instant.specs.declared.Reply.the-variants.{Score as Turned, Lengths, State, Input, Next, Settled}
 

@@ -16,9 +16,9 @@ ghost use Rattle.instant.specs.Standing.{stateIn, standingIn};
 ghost use Rattle.instant.specs.HandedOver.{Buffers, Known, HandedOver};
 use engine::Outcome;
 use format::Sizes;
-use scorefile::Verdict;
 use store::Agents;
 use store::Tokens;
+use verdicts::Verdict;
 
 // What an instant call answers.
 pub enum Reply {
@@ -54,7 +54,7 @@ pub fn call(
     ensures { λ r. ⌜ InstantCall (now (score .entry)) (now (input .entry)) (lent (now (state .entry)) (now (store .entry)) (now (output .entry)) (now (scratch .entry))) (lent (now (state .exit)) (now (store .exit)) (now (output .exit)) (now (scratch .exit))) r ⌝ }
 {
     let verdict = scorefile::check(score);
-    if scorefile::number_of(verdict) != 0 {
+    if verdicts::number_of(verdict) != 0 {
         return Reply::Score(verdict);
     }
     if wrong_length(

@@ -6,8 +6,9 @@ ghost use lib.ListN.{length};
 ghost use Rattle.tcc.specs.Instant.{startState};
 ghost use Rattle.format.specs.Decode.{decode};
 ghost use Rattle.words.specs.Word.{words};
-ghost use Rattle.scorefile.specs.Check.{verdict, numberOf};
+ghost use Rattle.scorefile.specs.Check.{verdict};
 ghost use Rattle.lent.specs.Lengths.{stateBytes};
+ghost use Rattle.verdicts.specs.Verdicts.{numberOf};
 ghost use Rattle.lent.specs.States.{asBytes};
 ghost use Rattle.score.specs.Answer.{numberIn};
 ghost use Rattle.io.specs.Counts.{Counts};
@@ -78,7 +79,7 @@ fn start(score: &[u8]) -> [u8; lent::STATE_BYTES]
     ensures { λ r. ⌜ (numberOf (verdict (now (score .entry))) ≡ 0 → r ≡ asBytes (startState (decode (now (score .entry))))) ⌝ }
 {
     let mut state = [0u8; lent::STATE_BYTES];
-    if scorefile::number_of(scorefile::check(score)) == 0 {
+    if verdicts::number_of(scorefile::check(score)) == 0 {
         history::write_start(score, &mut state);
     }
     state

@@ -7,8 +7,9 @@ use mathlib.Core.List.{List}
 use Prim.Native.Nat.{ℕ, zero, suc, _^_, _<_, _≤_}
 use native.Mathlib.Omega.{arith}
 use Rattle.scorefile.specs.Check.{verdict}
-use Rattle.scorefile.specs.Check as check
-use Rattle.scorefile.proofs.Values.{verdict-small, number-few, verdict-settled}
+use Rattle.verdicts.specs.Verdicts as verdicts
+use Rattle.verdicts.proofs.Verdicts.{number-few, verdict-settled}
+use Rattle.scorefile.proofs.Values.{verdict-small}
 use Rattle.score.specs.Answer.{reply, numberIn, valueIn, numberOf, valueOf, Fits}
 use Rattle.score.specs.CheckCall.{CheckCall, OneExit, OneAnswer}
 use Rattle.score.proofs.Answer.{exact}
@@ -28,10 +29,10 @@ pub reply-fits : (n v : ℕ) → n ≤ 7 → v < 2 ^ 24 → Fits (reply n v)
 reply-fits zero v hn hv = omega arith
 reply-fits (suc n) v hn hv = omega arith
 
-pub read : (s : List ℕ) (a : ℕ) → CheckCall s a → (numberIn a ≡ check.numberOf (verdict s)) × (valueIn a ≡ check.valueOf (verdict s))
+pub read : (s : List ℕ) (a : ℕ) → CheckCall s a → (numberIn a ≡ verdicts.numberOf (verdict s)) × (valueIn a ≡ verdicts.valueOf (verdict s))
 read s a c =
-    let n = check.numberOf (verdict s) in
-    let v = check.valueOf (verdict s) in
+    let n = verdicts.numberOf (verdict s) in
+    let v = verdicts.valueOf (verdict s) in
     let e = exact (reply n v) (reply-fits n v (number-few (verdict s)) (verdict-small s)) in
     (ap numberIn (c .answered) ∙ e .number ∙ reply-number n v, ap valueIn (c .answered) ∙ e .value ∙ reply-value n v)
 

@@ -18,11 +18,12 @@ use Rattle.tcc.specs.Score.{Score, agentAt}
 use Rattle.tcc.specs.Instant.{State as Between, running, aborted, Answer, count, abortedAnswer, quietAnswer, liveIn, heldIn, isAbort, reached, instant, answer, after}
 use Rattle.format.specs.Decode.{sizes, decode}
 use Rattle.format.proofs.Decode.{sizes-few}
-use Rattle.scorefile.specs.declared.Verdict.{Verdict}
-use Rattle.scorefile.specs.declared.Verdict.the-variants.{Accepted}
+use Rattle.verdicts.specs.declared.Verdict.{Verdict}
+use Rattle.verdicts.specs.declared.Verdict.the-variants.{Accepted}
 use Rattle.scorefile.specs.Check.{verdict}
-use Rattle.scorefile.specs.Check as check
-use Rattle.scorefile.proofs.Values.{verdict-small, number-few, verdict-settled}
+use Rattle.verdicts.specs.Verdicts as verdicts
+use Rattle.verdicts.proofs.Verdicts.{number-few, verdict-settled}
+use Rattle.scorefile.proofs.Values.{verdict-small}
 use Rattle.store.proofs.Flags.{below-length, keep-few}
 use Rattle.lent.specs.Maps.{tokensIn}
 use Rattle.lent.specs.States.{stateFault, stateOf, asBytes}
@@ -62,7 +63,7 @@ agents-few s = simp (length-map, length-take) (omega (arith, sizes-few s))
 
 -- what the replies of a call have in common
 data Proper : Replied → Type 0 where
-  turned : (v : Verdict) → (check.numberOf v ≡ 0 → ⊥) → check.valueOf v < 2 ^ 24 → Proper (Turned v)
+  turned : (v : Verdict) → (verdicts.numberOf v ≡ 0 → ⊥) → verdicts.valueOf v < 2 ^ 24 → Proper (Turned v)
   lengths : Proper Lengths
   state : Proper State
   input : Proper Input
@@ -76,12 +77,12 @@ either : (b : Bool) {x y : Exit} → Replies x → Replies y → Replies (cond b
 either true p q = p
 either false p q = q
 
-checked-first : (v : Verdict) (l : Lent) {y : Exit} → check.valueOf v < 2 ^ 24 → Replies y → Replies (cond (not (eqb (check.numberOf v) 0)) (kept l (Turned v)) y)
-checked-first v l {y} h q = go (eqb (check.numberOf v) 0) refl
+checked-first : (v : Verdict) (l : Lent) {y : Exit} → verdicts.valueOf v < 2 ^ 24 → Replies y → Replies (cond (not (eqb (verdicts.numberOf v) 0)) (kept l (Turned v)) y)
+checked-first v l {y} h q = go (eqb (verdicts.numberOf v) 0) refl
   where
-    go : (b : Bool) → eqb (check.numberOf v) 0 ≡ b → Replies (cond (not b) (kept l (Turned v)) y)
+    go : (b : Bool) → eqb (verdicts.numberOf v) 0 ≡ b → Replies (cond (not b) (kept l (Turned v)) y)
     go true e = q
-    go false e = record { proper = turned v (eqb-false (check.numberOf v) 0 e) h }
+    go false e = record { proper = turned v (eqb-false (verdicts.numberOf v) 0 e) h }
 
 answered-proper : (score : List ℕ) (st : Between) (inputs : List ℕ) → let a = answer (decode score) st inputs in Proper (Settled (a .status) (count a))
 answered-proper score st inputs =
@@ -101,7 +102,7 @@ exit-replies score given l =
     (record { proper = answered-proper score (stateOf (l .state)) (tokensIn given) })))))
 
 proper-fits : {r : Replied} → Proper r → Fits (ofReply r)
-proper-fits (turned v n h) = reply-fits (check.numberOf v) (check.valueOf v) (number-few v) h
+proper-fits (turned v n h) = reply-fits (verdicts.numberOf v) (verdicts.valueOf v) (number-few v) h
 proper-fits lengths = (omega arith, omega arith, λ h. omega arith, omega arith)
 proper-fits state = (omega arith, omega arith, λ h. omega arith, omega arith)
 proper-fits input = (omega arith, omega arith, λ h. omega arith, omega arith)
@@ -136,16 +137,16 @@ verdictIn Input = Accepted
 verdictIn Next = Accepted
 verdictIn (Settled s c) = Accepted
 
-verdict-number : {r : Replied} → Proper r → check.numberOf (verdictIn r) ≡ cond (leb (numberOf (ofReply r)) 7) (numberOf (ofReply r)) 0
-verdict-number (turned v n h) = rw (reply-number (check.numberOf v) (check.valueOf v), le-leb (check.numberOf v) 7 (number-few v))
+verdict-number : {r : Replied} → Proper r → verdicts.numberOf (verdictIn r) ≡ cond (leb (numberOf (ofReply r)) 7) (numberOf (ofReply r)) 0
+verdict-number (turned v n h) = rw (reply-number (verdicts.numberOf v) (verdicts.valueOf v), le-leb (verdicts.numberOf v) 7 (number-few v))
 verdict-number lengths = refl
 verdict-number state = refl
 verdict-number input = refl
 verdict-number follows = refl
 verdict-number (settles s c p q) = refl
 
-verdict-value : {r : Replied} → Proper r → check.valueOf (verdictIn r) ≡ valueOf (ofReply r)
-verdict-value (turned v n h) = sym (reply-value (check.numberOf v) (check.valueOf v))
+verdict-value : {r : Replied} → Proper r → verdicts.valueOf (verdictIn r) ≡ valueOf (ofReply r)
+verdict-value (turned v n h) = sym (reply-value (verdicts.numberOf v) (verdicts.valueOf v))
 verdict-value lengths = refl
 verdict-value state = refl
 verdict-value input = refl
@@ -155,8 +156,8 @@ verdict-value (settles s c p q) = refl
 by-itself : {r : Replied} → Proper r → r ≡ replyBy (verdictIn r) (numberOf (ofReply r)) (statusOf (ofReply r)) (countOf (ofReply r))
 by-itself (turned v n h) =
     let few = number-few v in
-    let m = check.numberOf v in
-    rw (reply-number m (check.valueOf v), ne-eqb m 0 n, ne-eqb m 8 (λ z. omega arith), ne-eqb m 9 (λ z. omega arith), ne-eqb m 10 (λ z. omega arith), ne-eqb m 11 (λ z. omega arith))
+    let m = verdicts.numberOf v in
+    rw (reply-number m (verdicts.valueOf v), ne-eqb m 0 n, ne-eqb m 8 (λ z. omega arith), ne-eqb m 9 (λ z. omega arith), ne-eqb m 10 (λ z. omega arith), ne-eqb m 11 (λ z. omega arith))
 by-itself lengths = refl
 by-itself state = refl
 by-itself input = refl

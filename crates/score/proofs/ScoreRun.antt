@@ -12,8 +12,9 @@ use Prim.Native.Nat.{ℕ, _/_, _^_, _<_}
 use native.Mathlib.Omega.{arith}
 use lib.ListN.{length}
 use Rattle.scorefile.specs.Check.{verdict}
-use Rattle.scorefile.specs.Check as check
-use Rattle.scorefile.proofs.Values.{verdict-small, number-few}
+use Rattle.verdicts.specs.Verdicts as verdicts
+use Rattle.verdicts.proofs.Verdicts.{number-few}
+use Rattle.scorefile.proofs.Values.{verdict-small}
 use Rattle.history.specs.declared.Reply.{Reply as Replied}
 use Rattle.history.specs.RunCall.{Lent, Exit, exit, RunCall}
 use Rattle.history.proofs.Replies.{Proper, turned, lengths, no-state, unlawful, bytes, word, differs, full, accepted, run-proper}
@@ -27,7 +28,7 @@ pub one-exit : OneExit
 one-exit score inputs before after₁ after₂ a b p q = (p .written ∙ sym (q .written), p .answered ∙ sym (q .answered))
 
 pub proper-fits : {score : List ℕ} {n : ℕ} {r : Replied} → n < 2 ^ 61 → Proper score n r → Fits (ofRunReply r)
-proper-fits {score = score} few turned = reply-fits (check.numberOf (verdict score)) (check.valueOf (verdict score)) (number-few (verdict score)) (verdict-small score)
+proper-fits {score = score} few turned = reply-fits (verdicts.numberOf (verdict score)) (verdicts.valueOf (verdict score)) (number-few (verdict score)) (verdict-small score)
 proper-fits few lengths = (omega arith, omega arith, λ h. omega arith, omega arith)
 proper-fits few no-state = (omega arith, omega arith, λ h. omega arith, omega arith)
 proper-fits few unlawful = (omega arith, omega arith, λ h. omega arith, omega arith)

@@ -6,8 +6,9 @@
 use mathlib.Core.Path.{_≡_}
 use mathlib.Core.List.{List}
 use Prim.Native.Nat.{ℕ}
-use Rattle.scorefile.specs.declared.Verdict.{Verdict}
-use Rattle.scorefile.specs.Check.{numberOf, valueOf, verdict}
+use Rattle.verdicts.specs.declared.Verdict.{Verdict}
+use Rattle.verdicts.specs.Verdicts.{numberOf, valueOf}
+use Rattle.scorefile.specs.Check.{verdict}
 use Rattle.score.specs.Answer.{Reply, reply, packed}
 
 abbrev pub ofVerdict : Verdict → Reply

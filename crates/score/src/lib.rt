@@ -8,7 +8,7 @@ ghost use Rattle.score.specs.ScoreInstant.{ofReply, ScoreInstant};
 ghost use Rattle.score.specs.ScoreRun.{ofRunReply, ScoreRun};
 ghost use Rattle.score.specs.ScoreJournalCheck.{ScoreJournalCheck};
 use instant::Reply;
-use scorefile::Verdict;
+use verdicts::Verdict;
 
 // Checks a score.
 #[no_mangle]
@@ -60,11 +60,11 @@ fn of_verdict(verdict: Verdict) -> u64
     requires { ⌜ Fits (ofVerdict verdict) ⌝ }
     ensures { λ r. ⌜ r ≡ packed (ofVerdict verdict) ⌝ }
 {
-    let number = scorefile::number_of(verdict);
+    let number = verdicts::number_of(verdict);
     if number == 0 {
         return 0;
     }
-    refusal(number, scorefile::value_of(verdict))
+    refusal(number, verdicts::value_of(verdict))
 }
 
 // The reply of an instant call as an answer.

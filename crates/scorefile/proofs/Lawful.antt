@@ -15,11 +15,15 @@ use Rattle.tcc.proofs.Sets.{Within}
 use Rattle.tcc.proofs.Unguarded.{CallsKnown, circular-exact}
 use Rattle.words.specs.Word.{field, words, wordAt}
 use Rattle.words.proofs.Words.{words-length}
-use Rattle.scorefile.specs.declared.Verdict.the-variants.{Accepted}
+use Rattle.verdicts.specs.declared.Verdict.the-variants.{Accepted}
 use Rattle.format.specs.Decode.{sizes, decode}
-use Rattle.scorefile.specs.Check.{numberOf, orElse, lengthVerdict, headVerdict, countVerdict, firstFault, Faultless, circleFrom, verdict}
-use Rattle.scorefile.proofs.Accepted.{both-accepted, length-accepted, count-accepted, tokens-known, parts-lower, procedures-known, roots-known, ports-known, ports-ordered, rules-known}
-use Rattle.scorefile.proofs.Circle.{circle-free}
+use Rattle.verdicts.specs.Verdicts.{numberOf, orElse}
+use Rattle.faults.specs.Faults.{lengthVerdict, headVerdict, countVerdict, firstFault, Faultless}
+use Rattle.circles.specs.Circles.{circleFrom}
+use Rattle.scorefile.specs.Check.{verdict}
+use Rattle.verdicts.proofs.Verdicts.{both-accepted}
+use Rattle.faults.proofs.Accepted.{length-accepted, count-accepted, tokens-known, parts-lower, procedures-known, roots-known, ports-known, ports-ordered, rules-known}
+use Rattle.circles.proofs.Circle.{circle-free}
 use Rattle.format.proofs.Decode.{decode-agents, decode-roots, decode-tokens, decode-lowest, decode-highest, decode-rules, on-rules, sizes-few}
 
 -- each test in turn

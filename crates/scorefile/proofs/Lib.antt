@@ -1,5 +1,2 @@
-pub mod Verdicts
-pub mod Accepted
-pub mod Circle
 pub mod Values
 pub mod Lawful

@@ -1,8 +1,6 @@
--- The values of verdicts are small, and a number and a value settle a verdict.
+-- The values of verdicts are small.
 --     verdict-small      the word or procedure of a verdict is below 2 ^ 24
---     number-few         its number is at most 7
---     verdict-settled    two verdicts with the same number and the same value are the same
-use mathlib.Core.Path.{_≡_, refl, sym, ap₂, _∙_}
+use mathlib.Core.Path.{_≡_}
 use mathlib.Core.Bool.{Bool, true, false, cond, not, _||_}
 use mathlib.Core.List.{List, [], _∷_}
 use Prim.Native.Nat.{ℕ, zero, suc, _+_, _-_, _%_, _^_, _<_, _≤_}
@@ -18,14 +16,19 @@ use Rattle.words.proofs.Words.{words-length}
 use Rattle.format.specs.declared.Sizes.{Sizes}
 use Rattle.format.specs.declared.Decoded.{Decoded}
 use Rattle.format.specs.declared.Decoded.the-variants.{Whole, Malformed}
-use Rattle.scorefile.specs.declared.Verdict.{Verdict}
-use Rattle.scorefile.specs.declared.Verdict.the-variants.{Accepted, Length, Head, Count, Form, Token, Reference, Circle}
+use Rattle.verdicts.specs.declared.Verdict.{Verdict}
+use Rattle.verdicts.specs.declared.Verdict.the-variants.{Accepted, Length, Head, Count, Form, Token, Reference, Circle}
 use Rattle.format.specs.Format.{isWord, decodeAgent}
 use Rattle.format.specs.Decode.{sizes, decode}
-use Rattle.scorefile.specs.Check.{numberOf, valueOf, orElse, atWord, agentVerdict, wordVerdict, firstFault, circleFrom, lengthVerdict, headVerdict, countVerdict, verdict}
-use Rattle.scorefile.proofs.Accepted.{length-accepted}
+use Rattle.verdicts.specs.Verdicts.{numberOf, valueOf, orElse}
+use Rattle.wordfaults.specs.WordFaults.{atWord}
+use Rattle.agentfaults.specs.AgentFaults.{agentVerdict}
+use Rattle.faults.specs.Faults.{wordVerdict, firstFault, lengthVerdict, headVerdict, countVerdict}
+use Rattle.circles.specs.Circles.{circleFrom}
+use Rattle.scorefile.specs.Check.{verdict}
+use Rattle.faults.proofs.Accepted.{length-accepted}
 use Rattle.format.proofs.Decode.{sizes-few}
-use Rattle.scorefile.proofs.Verdicts.{orElse-accepted, orElse-refused}
+use Rattle.verdicts.proofs.Verdicts.{orElse-accepted, orElse-refused}
 
 record Small (n : ℕ) (v : Verdict) : Type 0 where
   small : valueOf v ≤ n
@@ -98,32 +101,3 @@ verdict-small s = go (ℕ-discrete (numberOf (lengthVerdict (length s))) 0)
     go : Dec (numberOf (lengthVerdict (length s)) ≡ 0) → valueOf (verdict s) < 2 ^ 24
     go (yes e) = rw (orElse-accepted (lengthVerdict (length s)) _ e) (omega (arith, rest-small s e .small))
     go (no n) = rw (orElse-refused (lengthVerdict (length s)) _ n) (omega (arith, length-small (length s) .small))
-
-pub number-few : (v : Verdict) → numberOf v ≤ 7
-number-few Accepted = omega arith
-number-few Length = omega arith
-number-few Head = omega arith
-number-few Count = omega arith
-number-few (Form k) = omega arith
-number-few (Token k) = omega arith
-number-few (Reference k) = omega arith
-number-few (Circle p) = omega arith
-
--- the verdict with a number and a value
-abbrev verdictBy : ℕ → ℕ → Verdict
-verdictBy n k =
-    cond (eqb n 0) Accepted (cond (eqb n 1) Length (cond (eqb n 2) Head (cond (eqb n 3) Count
-    (cond (eqb n 4) (Form k) (cond (eqb n 5) (Token k) (cond (eqb n 6) (Reference k) (Circle k)))))))
-
-by-itself : (v : Verdict) → v ≡ verdictBy (numberOf v) (valueOf v)
-by-itself Accepted = refl
-by-itself Length = refl
-by-itself Head = refl
-by-itself Count = refl
-by-itself (Form k) = refl
-by-itself (Token k) = refl
-by-itself (Reference k) = refl
-by-itself (Circle p) = refl
-
-pub verdict-settled : (v w : Verdict) → numberOf v ≡ numberOf w → valueOf v ≡ valueOf w → v ≡ w
-verdict-settled v w n e = by-itself v ∙ ap₂ verdictBy n e ∙ sym (by-itself w)

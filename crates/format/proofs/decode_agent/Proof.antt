@@ -88,42 +88,48 @@ unfolding decodeAgent
 returns-3 c =
     let b = c .before .before in
     let w = b .before .before .args .w in
-    rw (sym (b .before .bits .ensures) ∙ b .match .keys2) (c .if-clear3 .ensures ∙ ap (λ n. formed w 8 (Tell n)) (c .before .number .ensures))
+    let whole : c .if-clear3 .result ≡ formed w 8 (Tell (c .before .number .result)) = c .if-clear3 .ensures in
+    rw (sym (b .before .bits .ensures) ∙ b .match .keys2) (whole ∙ ap (λ n. formed w 8 (Tell n)) (c .before .number .ensures))
 
 returns-4 : tie.Need-returns-4
 unfolding decodeAgent
 returns-4 c =
     let b = c .before .before .before in
     let w = b .before .before .args .w in
-    rw (sym (b .before .bits .ensures) ∙ b .match .keys3) (c .if-clear4 .ensures ∙ ap₂ (λ n m. formed w 20 (Parallel n m)) (c .before .before .number2 .ensures) (c .before .number3 .ensures))
+    let whole : c .if-clear4 .result ≡ formed w 20 (Parallel (c .before .before .number2 .result) (c .before .number3 .result)) = c .if-clear4 .ensures in
+    rw (sym (b .before .bits .ensures) ∙ b .match .keys3) (whole ∙ ap₂ (λ n m. formed w 20 (Parallel n m)) (c .before .before .number2 .ensures) (c .before .number3 .ensures))
 
 returns-5 : tie.Need-returns-5
 unfolding decodeAgent
 returns-5 c =
     let b = c .before .before .before in
     let w = b .before .before .args .w in
-    rw (sym (b .before .bits .ensures) ∙ b .match .keys4) (c .if-clear5 .ensures ∙ ap₂ (λ n m. formed w 18 (When n m)) (c .before .before .number4 .ensures) (c .before .number5 .ensures))
+    let whole : c .if-clear5 .result ≡ formed w 18 (When (c .before .before .number4 .result) (c .before .number5 .result)) = c .if-clear5 .ensures in
+    rw (sym (b .before .bits .ensures) ∙ b .match .keys4) (whole ∙ ap₂ (λ n m. formed w 18 (When n m)) (c .before .before .number4 .ensures) (c .before .number5 .ensures))
 
 returns-6 : tie.Need-returns-6
 unfolding decodeAgent
 returns-6 c =
     let b = c .before .before in
     let w = b .before .before .args .w in
-    rw (sym (b .before .bits .ensures) ∙ b .match .keys5) (c .if-clear6 .ensures ∙ ap (λ n. formed w 10 (Next n)) (c .before .number6 .ensures))
+    let whole : c .if-clear6 .result ≡ formed w 10 (Next (c .before .number6 .result)) = c .if-clear6 .ensures in
+    rw (sym (b .before .bits .ensures) ∙ b .match .keys5) (whole ∙ ap (λ n. formed w 10 (Next n)) (c .before .number6 .ensures))
 
 returns-7 : tie.Need-returns-7
 unfolding decodeAgent
 returns-7 c =
     let b = c .before .before .before in
     let w = b .before .before .args .w in
-    rw (sym (b .before .bits .ensures) ∙ b .match .keys6) (c .if-clear7 .ensures ∙ ap₂ (λ n m. formed w 18 (Unless n m)) (c .before .before .number7 .ensures) (c .before .number8 .ensures))
+    let whole : c .if-clear7 .result ≡ formed w 18 (Unless (c .before .before .number7 .result) (c .before .number8 .result)) = c .if-clear7 .ensures in
+    rw (sym (b .before .bits .ensures) ∙ b .match .keys6) (whole ∙ ap₂ (λ n m. formed w 18 (Unless n m)) (c .before .before .number7 .ensures) (c .before .number8 .ensures))
 
 returns-8 : tie.Need-returns-8
 unfolding decodeAgent
 returns-8 c =
     let b = c .before .before in
     let w = b .before .before .args .w in
-    rw (sym (b .before .bits .ensures) ∙ b .match .keys7) (c .if-clear8 .ensures ∙ ap (λ n. formed w 6 (Call n)) (c .before .number9 .ensures))
+    let whole : c .if-clear8 .result ≡ formed w 6 (Call (c .before .number9 .result)) = c .if-clear8 .ensures in
+    rw (sym (b .before .bits .ensures) ∙ b .match .keys7) (whole ∙ ap (λ n. formed w 6 (Call n)) (c .before .number9 .ensures))
 
 returns-9 : tie.Need-returns-9
 unfolding decodeAgent

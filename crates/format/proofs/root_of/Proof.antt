@@ -1,5 +1,5 @@
 -- `format::root_of`: the root stands in the procedure's word.
-use mathlib.Core.Path.{sym, ap, _∙_}
+use mathlib.Core.Path.{_≡_, sym, ap, _∙_}
 use Prim.Native.Nat.{_+_}
 use native.Mathlib.Omega.{arith}
 use Rattle.words.specs.Word.{field, wordAt}
@@ -24,9 +24,12 @@ number-requires c κs = search needs
 returns : tie.Need-returns
 returns c =
     let b = c .before .before .before in
-    c .number .ensures
-    ∙ ap (λ w. field w 0 10) (c .before .word-at .ensures ∙ ap (λ n. wordAt (b .args .s .now) (2 + n + b .args .p)) (b .pre .1 .0))
-    ∙ sym (decode-root (b .args .s .now) (b .args .p) (b .pre .1 .1))
+    let s = b .args .s .now in
+    let root : c .number .result ≡ field (c .before .word-at .result) 0 10 = c .number .ensures in
+    let word : c .before .word-at .result ≡ wordAt s (2 + b .args .agents + b .args .p) = c .before .word-at .ensures in
+    root
+    ∙ ap (λ w. field w 0 10) (word ∙ ap (λ n. wordAt s (2 + n + b .args .p)) (b .pre .1 .0))
+    ∙ sym (decode-root s (b .args .p) (b .pre .1 .1))
 
 pub root-of-spec : {M : Type 1} → statement M
 root-of-spec =

@@ -13,8 +13,10 @@ use Rattle.words.proofs.Words.{words-length}
 use Rattle.format.specs.Format.{sizesOf}
 use Rattle.format.specs.Decode.{sizes, decode}
 use Rattle.format.proofs.Decode.{decode-agents, decode-tokens, sizes-few}
-use Rattle.scorefile.specs.Check.{numberOf, verdict}
-use Rattle.scorefile.proofs.Accepted.{accepted-only, none-above}
+use Rattle.verdicts.specs.Verdicts.{numberOf}
+use Rattle.scorefile.specs.Check.{verdict}
+use Rattle.verdicts.proofs.Verdicts.{accepted-only}
+use Rattle.faults.proofs.Accepted.{none-above}
 use Rattle.scorefile.proofs.Lawful.{accepted-faultless, accepted-lawful}
 use Rattle.store.specs.Flags.{setOf, flagsOf}
 use Rattle.store.specs.Playable.{Playable}

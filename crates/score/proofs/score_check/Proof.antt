@@ -1,7 +1,9 @@
 -- `score_check`: the verdict, packed.
 use mathlib.Core.Path.{ap, _∙_}
-use Rattle.scorefile.specs.Check.{numberOf, valueOf, verdict}
-use Rattle.scorefile.proofs.Values.{verdict-small, number-few}
+use Rattle.verdicts.specs.Verdicts.{numberOf, valueOf}
+use Rattle.scorefile.specs.Check.{verdict}
+use Rattle.verdicts.proofs.Verdicts.{number-few}
+use Rattle.scorefile.proofs.Values.{verdict-small}
 use Rattle.score.specs.Answer.{packed}
 use Rattle.score.specs.CheckCall.{ofVerdict}
 use Rattle.score.proofs.CheckCall.{reply-fits}

@@ -1,0 +1,77 @@
+-- Circles of unguarded calls, read off the closed rows.
+--     marked-circular     row p marks p exactly if unguarded calls lead from p back to itself
+--     circle-here         the lowest circle from p on is p, if p lies on one
+--     circle-none         past the last procedure there is none
+--     circle-later        else it is the lowest from p + 1 on
+--     circle-free         where none is found, no procedure lies on a circle
+use mathlib.Core.Path.{_≡_, refl, sym, ap, subst, _∙_}
+use mathlib.Core.Bool.{Bool, true, false, cond}
+use mathlib.Core.List.{List}
+use Prim.Native.Nat.{ℕ, zero, suc, _+_, _-_, _<_, _≤_}
+use native.Mathlib.Nat.{not-suc-le-zero, le-of-suc-le-suc, add-zero, add-suc, suc-add}
+use native.Mathlib.Omega.{arith}
+use native.Mathlib.Numerals.{add-one}
+use lib.ListN.{length}
+use Rattle.tcc.specs.Score.{Score, rootOf}
+use Rattle.tcc.specs.Unguarded.{Leads, Reaches, circular}
+use Rattle.tcc.specs.Unguarded.{one as one-call, more as more-calls}
+use Rattle.tcc.proofs.Unguarded.{CallsKnown, leads-known, circular-exact}
+use Rattle.verdicts.specs.declared.Verdict.{Verdict}
+use Rattle.verdicts.specs.declared.Verdict.the-variants.{Accepted, Circle}
+use Rattle.verdicts.specs.Verdicts.{numberOf}
+use Rattle.circles.specs.Circles.{circleFrom}
+use Rattle.calltable.specs.Calls.{called, Direct, Linked, one, more, Closed}
+
+same-truth : (a b : Bool) → (a ≡ true → b ≡ true) → (b ≡ true → a ≡ true) → a ≡ b
+same-truth true b f g = sym (f refl)
+same-truth false true f g = g refl
+same-truth false false f g = refl
+
+module _ (sc : Score) (n : ℕ) (count : length (sc .roots) ≡ n) (few : n ≤ 64) (known : CallsKnown sc) (m : List (List Bool)) (direct : Direct sc m) where
+  led : (p q : ℕ) → p < n → q < 64 → called m p q ≡ true → Leads sc (rootOf sc p) q
+  led p q lp lq e = direct .exact p q (omega arith) lq .0 e
+
+  calls : (p q : ℕ) → p < n → Leads sc (rootOf sc p) q → called m p q ≡ true
+  calls p q lp l = direct .exact p q (omega arith) (omega (arith, leads-known known l)) .1 l
+
+  linked-reaches : (p q : ℕ) → p < n → q < n → Linked n m p q → Reaches sc p q
+  linked-reaches p q lp lq (one e) = one-call (led p q lp (omega arith) e)
+  linked-reaches p q lp lq (more {q = j} lj e rest) = more-calls (led p j lp (omega arith) e) (linked-reaches j q lj lq rest)
+
+  reaches-linked : (p q : ℕ) → p < n → Reaches sc p q → Linked n m p q
+  reaches-linked p q lp (one-call l) = one (calls p q lp l)
+  reaches-linked p q lp (more-calls {q = j} l rest) =
+      let lj : j < n = omega (arith, leads-known known l) in
+      more lj (calls p j lp l) (reaches-linked j q lj rest)
+
+  pub marked-circular : (r : List (List Bool)) → Closed n m r → (p : ℕ) → p < n → called r p p ≡ circular sc p
+  marked-circular r closed p lp =
+      same-truth (called r p p) (circular sc p)
+      (λ e. circular-exact sc known p .1 (linked-reaches p p lp lp (closed .exact p p lp (omega arith) .0 e)))
+      (λ e. closed .exact p p lp (omega arith) .1 (reaches-linked p p lp (circular-exact sc known p .0 e)))
+
+pub circle-here : (sc : Score) (p n : ℕ) → p < n → circular sc p ≡ true → circleFrom sc p (n - p) ≡ Circle p
+unfolding circleFrom
+circle-here sc p n lt e =
+    let k : n - p ≡ suc (n - (p + 1)) = omega arith in
+    rw k (ap (λ here. cond here (Circle p) (circleFrom sc (suc p) (n - (p + 1)))) e)
+
+pub circle-later : (sc : Score) (p n : ℕ) → p < n → circular sc p ≡ false → circleFrom sc p (n - p) ≡ circleFrom sc (p + 1) (n - (p + 1))
+unfolding circleFrom
+circle-later sc p n lt e = let k : n - p ≡ suc (n - (p + 1)) = omega arith in rw (k, e) (ap (λ j. circleFrom sc j (n - (p + 1))) (sym (add-one p)))
+
+pub circle-none : (sc : Score) (p n : ℕ) → n ≤ p → circleFrom sc p (n - p) ≡ Accepted
+unfolding circleFrom
+circle-none sc p n le = let k : n - p ≡ 0 = omega arith in rw k
+
+not-here : (b : Bool) (p : ℕ) (v : Verdict) → cond b (Circle p) v ≡ Accepted → (b ≡ false) × (v ≡ Accepted)
+not-here true p v e = let z : _≡_ {A = ℕ} 7 0 = ap numberOf e in absurd (omega arith)
+not-here false p v e = (refl, e)
+
+pub circle-free : (sc : Score) (p n : ℕ) → circleFrom sc p n ≡ Accepted → (j : ℕ) → j < n → circular sc (p + j) ≡ false
+unfolding circleFrom
+circle-free sc p zero e j lt = absurd (not-suc-le-zero lt)
+circle-free sc p (suc n) e zero lt = rw add-zero (not-here (circular sc p) p (circleFrom sc (suc p) n) e .0)
+circle-free sc p (suc n) e (suc j) lt =
+    let r : circular sc (suc p + j) ≡ false = circle-free sc (suc p) n (not-here (circular sc p) p (circleFrom sc (suc p) n) e .1) j (le-of-suc-le-suc lt) in
+    subst (λ i. circular sc i ≡ false) (suc-add p j ∙ sym (add-suc p j)) r

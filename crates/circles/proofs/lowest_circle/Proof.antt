@@ -1,0 +1,39 @@
+-- `circles::lowest_circle`: either table has room for every agent.
+use mathlib.Core.Path.{ap}
+use borrow.Author.Needs.{needs}
+use native.Mathlib.Omega.{arith}
+use Rattle.format.proofs.Decode.{sizes-few}
+use Rattle.circles.proofs.lowest_circle.Statement.{statement}
+use Rattle.circles.proofs.lowest_circle.Tie as tie
+
+slice-aggregate-circle-among : tie.Need-slice-aggregate-circle-among
+slice-aggregate-circle-among c = search needs
+
+circle-among-requires : tie.Need-circle-among-requires
+circle-among-requires c κs = search needs
+
+returns : tie.Need-returns
+returns c = search needs
+
+slice-aggregate-circle-among-2 : tie.Need-slice-aggregate-circle-among-2
+slice-aggregate-circle-among-2 c = search needs
+
+circle-among-requires-2 : tie.Need-circle-among-requires-2
+circle-among-requires-2 c κs =
+    let b = c .before .before .before .before in
+    let e = ap (λ h. h .agents) (b .pre .0) in
+    (b .pre .0, (b .pre .1, omega (arith, e, sizes-few (b .args .s .now))))
+
+returns-2 : tie.Need-returns-2
+returns-2 c = search needs
+
+pub lowest-circle-spec : {M : Type 1} → statement M
+lowest-circle-spec =
+    tie.close
+    (tie.spec
+    slice-aggregate-circle-among
+    circle-among-requires
+    returns
+    slice-aggregate-circle-among-2
+    circle-among-requires-2
+    returns-2)

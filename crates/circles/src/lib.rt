@@ -1,0 +1,77 @@
+ghost use mathlib.Core.Path.{_≡_};
+ghost use Prim.Native.Nat.{_≤_};
+ghost use lib.ListN.{length};
+ghost use Rattle.format.specs.Decode.{sizes, decode};
+ghost use Rattle.faults.specs.Faults.{Faultless};
+ghost use Rattle.circles.specs.Circles.{circleFrom};
+ghost use Rattle.calltable.specs.Calls.{Gathered, Direct};
+use format::Sizes;
+use verdicts::Verdict;
+
+// The lowest procedure from which unguarded calls lead back to itself. A small score has a small table to clear.
+pub fn lowest_circle(s: &[u8], head: Sizes) -> Verdict
+    requires { ⌜ head ≡ sizes (now s) ⌝ }
+    requires { ⌜ Faultless (now s) ⌝ }
+    ensures { λ r. ⌜ r ≡ circleFrom (decode (now (s .entry))) 0 (length (decode (now (s .entry)) .roots)) ⌝ }
+{
+    if head.agents <= 128 {
+        let mut sets = [0u64; 128];
+        return circle_among(s, head, &mut sets);
+    }
+    let mut sets = [0u64; 1024];
+    circle_among(s, head, &mut sets)
+}
+
+// The same, with room for a set of procedures for each agent.
+fn circle_among(s: &[u8], head: Sizes, sets: &mut [u64]) -> Verdict
+    requires { ⌜ head ≡ sizes (now s) ⌝ }
+    requires { ⌜ Faultless (now s) ⌝ }
+    requires { ⌜ head .agents ≤ length (now sets) ⌝ }
+    ensures { λ r. ⌜ r ≡ circleFrom (decode (now (s .entry))) 0 (length (decode (now (s .entry)) .roots)) ⌝ }
+{
+    let agents = head.agents;
+    let procedures = head.procedures;
+    gather(s, agents, sets);
+    let mut rows = [[false; 64]; 64];
+    mark_direct(s, agents, procedures, sets, &mut rows);
+    calltable::close(procedures, &mut rows);
+    let mut p = 0;
+    while p < procedures {
+        if rows[p][p] {
+            return Verdict::Circle(p);
+        }
+        p += 1;
+    }
+    Verdict::Accepted
+}
+
+// The set of procedures that each agent leads to, from the lowest agent on: a body has a lower number than its agent.
+fn gather(s: &[u8], agents: usize, sets: &mut [u64])
+    requires { ⌜ agents ≡ sizes (now s) .agents ⌝ }
+    requires { ⌜ Faultless (now s) ⌝ }
+    requires { ⌜ agents ≤ length (now sets) ⌝ }
+    ensures { λ _. ⌜ Gathered (decode (now (s .entry))) agents (now (sets .exit)) ⌝ }
+{
+    let mut i = 0;
+    while i < agents {
+        sets[i] = calltable::leads_to(format::agent_at(s, i), sets);
+        i += 1;
+    }
+}
+
+// Marks in row p the procedures that p calls unguarded.
+fn mark_direct(s: &[u8], agents: usize, procedures: usize, sets: &[u64], rows: &mut calltable::Rows)
+    requires { ⌜ agents ≡ sizes (now s) .agents ⌝ }
+    requires { ⌜ procedures ≡ sizes (now s) .procedures ⌝ }
+    requires { ⌜ Faultless (now s) ⌝ }
+    requires { ⌜ Gathered (decode (now s)) agents (now sets) ⌝ }
+    requires { ⌜ agents ≤ length (now sets) ⌝ }
+    requires { ⌜ length (now rows) ≡ 64 ⌝ }
+    ensures { λ _. ⌜ Direct (decode (now (s .entry))) (now (rows .exit)) ⌝ }
+{
+    let mut p = 0;
+    while p < procedures {
+        rows[p] = calltable::row_of(sets[format::root_of(s, agents, p)]);
+        p += 1;
+    }
+}

@@ -1,0 +1,26 @@
+-- The table's rows 4, 5 and 6 at one word: of the ports, a procedure, a rule.
+--     atWord               at one word: 4 before 5 before 6
+--     portsVerdict, rootVerdict, ruleVerdict    word k, as the ports, a procedure or a rule
+use mathlib.Core.Bool.{Bool, false, cond}
+use mathlib.Core.List.{List, [], _∷_}
+use Prim.Native.Nat.{ℕ}
+use lib.Dec.{leb, ltb}
+use Rattle.tcc.specs.Sets.{any}
+use Rattle.words.specs.Word.{field}
+use Rattle.format.specs.declared.Sizes.{Sizes}
+use Rattle.format.specs.Format.{isWord}
+use Rattle.verdicts.specs.declared.Verdict.{Verdict}
+use Rattle.verdicts.specs.declared.Verdict.the-variants.{Accepted, Form, Token, Reference}
+
+-- of word k: whether it has the form of its place, the tokens that it names, whether it refers out of range
+abbrev pub atWord : Sizes → ℕ → Bool → List ℕ → Bool → Verdict
+atWord h k formed tokens astray = cond formed (cond (any (λ t. leb (h .tokens) t) tokens) (Token k) (cond astray (Reference k) Accepted)) (Form k)
+
+abbrev pub portsVerdict : Sizes → ℕ → ℕ → Verdict
+portsVerdict h k w = atWord h k (isWord 11 16 w) (field w 0 8 ∷ field w 8 8 ∷ []) (ltb (field w 8 8) (field w 0 8))
+
+abbrev pub rootVerdict : Sizes → ℕ → ℕ → Verdict
+rootVerdict h k w = atWord h k (isWord 3 10 w) [] (leb (h .agents) (field w 0 10))
+
+abbrev pub ruleVerdict : Sizes → ℕ → ℕ → Verdict
+ruleVerdict h k w = atWord h k (isWord 2 24 w) (field w 0 8 ∷ field w 8 8 ∷ field w 16 8 ∷ []) false
