@@ -21,7 +21,8 @@ pub fn lowest_circle(s: &[u8], head: Sizes) -> Verdict
     Verdict::Accepted
 }
 
-// Its number, or that of the procedures where there is none. A small score has a small table to clear.
+// The number of that procedure, or how many procedures there are where none lies on a circle. A small score has a small
+// table to clear.
 fn circle_by_size(s: &[u8], head: Sizes) -> usize
     requires { ⌜ head ≡ sizes (now s) ⌝ }
     requires { ⌜ Faultless (now s) ⌝ }
@@ -40,7 +41,7 @@ fn circle_by_size(s: &[u8], head: Sizes) -> usize
 }
 
 // The same, with room for a set of procedures for each agent. Where no procedure calls one unguarded there is no circle,
-// and the 64 rows of 64 flags need not be cleared.
+// and no rows are cleared to find one.
 fn circle_among(s: &[u8], head: Sizes, sets: &mut [u64]) -> usize
     requires { ⌜ head ≡ sizes (now s) ⌝ }
     requires { ⌜ Faultless (now s) ⌝ }
@@ -75,7 +76,7 @@ fn calls_any(s: &[u8], agents: usize, procedures: usize, sets: &[u64]) -> bool
     false
 }
 
-// The lowest circle, read off the closed rows.
+// The same, read off the closed rows.
 fn circle_in_rows(s: &[u8], agents: usize, procedures: usize, sets: &[u64]) -> usize
     requires { ⌜ agents ≡ sizes (now s) .agents ⌝ }
     requires { ⌜ procedures ≡ sizes (now s) .procedures ⌝ }
