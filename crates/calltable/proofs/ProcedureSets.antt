@@ -2,16 +2,17 @@
 --     inSet-none     nothing is in 0
 --     inSet-or       the bitwise or is the union
 --     inSet-one      a one shifted left by p is the set of p alone
+--     inSet-some     a set of n bits that is not 0 holds a procedure
 use mathlib.Core.Path.{_≡_, refl, sym, ap, _∙_}
-use mathlib.Core.Bool.{false, _||_}
+use mathlib.Core.Bool.{true, false, _||_}
 use Prim.Native.Nat.{ℕ, zero, suc, _+_, _*_, _-_, _/_, _%_, _^_, _<_}
 use native.Mathlib.Decide.{decLt, ℕ-discrete}
-use native.Mathlib.Nat.{one-mul, mod-lt, mod-eq-of-lt, div-eq-of-lt, pow-suc, mul-mod-left}
+use native.Mathlib.Nat.{one-mul, mod-lt, mod-eq-of-lt, div-eq-of-lt, pow-suc, mul-mod-left, div-one}
 use native.Mathlib.Omega.{arith}
 use borrow.Author.Tests.{eq-eqb, ne-eqb}
 use lib.Bits.{bitOr, or-shr, or-mod}
 use lib.Dec.{eqb, lit<}
-use lib.Pow.{pow-lt, pow-pos, pow-add, shl-shr}
+use lib.Pow.{pow-lt, pow-pos, pow-add, shl-shr, shr-shr}
 use Rattle.calltable.specs.Calls.{inSet}
 
 -- of two binary digits
@@ -62,3 +63,15 @@ inSet-one p q h = ap (λ n. eqb (n / 2 ^ q % 2) 1) (mod-eq-of-lt {m = 2 ^ 64} (r
     go : Dec (p ≡ q) → eqb (2 ^ p / 2 ^ q % 2) 1 ≡ eqb p q
     go (yes e) = ap (λ n. eqb n 1) (ap (λ n. 2 ^ p / 2 ^ n % 2) (sym e) ∙ power-same p) ∙ sym (eq-eqb p q e)
     go (no n) = ap (λ k. eqb k 1) (power-other p q n) ∙ sym (ne-eqb p q n)
+
+pub inSet-some : (n x : ℕ) → x < 2 ^ n → (x ≡ 0 → ⊥) → (q : ℕ) × (q < n) × (inSet x q ≡ true)
+unfolding inSet
+inSet-some zero x small some = absurd (some (omega arith))
+inSet-some (suc n) x small some = go (ℕ-discrete (x % 2) 1) (inSet-some n (x / 2))
+  where
+    go : Dec (x % 2 ≡ 1) → (x / 2 < 2 ^ n → (x / 2 ≡ 0 → ⊥) → (q : ℕ) × (q < n) × (eqb (x / 2 / 2 ^ q % 2) 1 ≡ true)) → (q : ℕ) × (q < suc n) × (eqb (x / 2 ^ q % 2) 1 ≡ true)
+    go (yes e) rest = (0, omega arith, ap (λ m. eqb (m % 2) 1) (div-one x) ∙ eq-eqb (x % 2) 1 e)
+    go (no d) rest =
+        let half : x < 2 ^ n * 2 = rw pow-suc at small in
+        let held = rest (omega arith) (λ z. some (omega arith)) in
+        (1 + held .0, omega (arith, held .1), ap (λ m. eqb (m % 2) 1) (sym (shr-shr x 1 (held .0))) ∙ held .2)

@@ -1,19 +1,38 @@
 ghost use mathlib.Core.Path.{_≡_};
 ghost use Prim.Native.Nat.{_≤_};
 ghost use lib.ListN.{length};
+ghost use Rattle.tcc.specs.Unguarded.{UnguardedCall, LowestCircular};
 ghost use Rattle.format.specs.Decode.{sizes, decode};
 ghost use Rattle.faults.specs.Faults.{Faultless};
 ghost use Rattle.circles.specs.Circles.{circleFrom};
-ghost use Rattle.calltable.specs.Calls.{Gathered, Direct};
+ghost use Rattle.calltable.specs.Calls.{Gathered, Direct, Exactly};
 use format::Sizes;
 use verdicts::Verdict;
 
-// The lowest procedure from which unguarded calls lead back to itself. A small score has a small table to clear.
+// The lowest procedure from which unguarded calls lead back to itself.
 pub fn lowest_circle(s: &[u8], head: Sizes) -> Verdict
     requires { ⌜ head ≡ sizes (now s) ⌝ }
     requires { ⌜ Faultless (now s) ⌝ }
     ensures { λ r. ⌜ r ≡ circleFrom (decode (now (s .entry))) 0 (length (decode (now (s .entry)) .roots)) ⌝ }
 {
+    let p = circle_by_size(s, head);
+    if p < head.procedures {
+        return Verdict::Circle(p);
+    }
+    Verdict::Accepted
+}
+
+// The number of that procedure, or how many procedures there are where none lies on a circle. A small score has a small
+// table to clear.
+fn circle_by_size(s: &[u8], head: Sizes) -> usize
+    requires { ⌜ head ≡ sizes (now s) ⌝ }
+    requires { ⌜ Faultless (now s) ⌝ }
+    ensures { λ r. ⌜ LowestCircular (decode (now (s .entry))) r ⌝ }
+{
+    if head.agents <= 16 {
+        let mut sets = [0u64; 16];
+        return circle_among(s, head, &mut sets);
+    }
     if head.agents <= 128 {
         let mut sets = [0u64; 128];
         return circle_among(s, head, &mut sets);
@@ -22,27 +41,62 @@ pub fn lowest_circle(s: &[u8], head: Sizes) -> Verdict
     circle_among(s, head, &mut sets)
 }
 
-// The same, with room for a set of procedures for each agent.
-fn circle_among(s: &[u8], head: Sizes, sets: &mut [u64]) -> Verdict
+// The same, with room for a set of procedures for each agent. Where no procedure calls one unguarded there is no circle,
+// and no rows are cleared to find one.
+fn circle_among(s: &[u8], head: Sizes, sets: &mut [u64]) -> usize
     requires { ⌜ head ≡ sizes (now s) ⌝ }
     requires { ⌜ Faultless (now s) ⌝ }
     requires { ⌜ head .agents ≤ length (now sets) ⌝ }
-    ensures { λ r. ⌜ r ≡ circleFrom (decode (now (s .entry))) 0 (length (decode (now (s .entry)) .roots)) ⌝ }
+    ensures { λ r. ⌜ LowestCircular (decode (now (s .entry))) r ⌝ }
 {
     let agents = head.agents;
     let procedures = head.procedures;
     gather(s, agents, sets);
+    if !calls_any(s, agents, procedures, sets) {
+        return procedures;
+    }
+    circle_in_rows(s, agents, procedures, sets)
+}
+
+// Whether some procedure calls one unguarded.
+fn calls_any(s: &[u8], agents: usize, procedures: usize, sets: &[u64]) -> bool
+    requires { ⌜ agents ≡ sizes (now s) .agents ⌝ }
+    requires { ⌜ procedures ≡ sizes (now s) .procedures ⌝ }
+    requires { ⌜ Faultless (now s) ⌝ }
+    requires { ⌜ Gathered (decode (now s)) agents (now sets) ⌝ }
+    requires { ⌜ agents ≤ length (now sets) ⌝ }
+    ensures { λ r. ⌜ Exactly r (UnguardedCall (decode (now (s .entry)))) ⌝ }
+{
+    let mut caller = 0;
+    while caller < procedures {
+        if sets[format::root_of(s, agents, caller)] != 0 {
+            return true;
+        }
+        caller += 1;
+    }
+    false
+}
+
+// The same, read off the closed rows.
+fn circle_in_rows(s: &[u8], agents: usize, procedures: usize, sets: &[u64]) -> usize
+    requires { ⌜ agents ≡ sizes (now s) .agents ⌝ }
+    requires { ⌜ procedures ≡ sizes (now s) .procedures ⌝ }
+    requires { ⌜ Faultless (now s) ⌝ }
+    requires { ⌜ Gathered (decode (now s)) agents (now sets) ⌝ }
+    requires { ⌜ agents ≤ length (now sets) ⌝ }
+    ensures { λ r. ⌜ LowestCircular (decode (now (s .entry))) r ⌝ }
+{
     let mut rows = [[false; 64]; 64];
     mark_direct(s, agents, procedures, sets, &mut rows);
     calltable::close(procedures, &mut rows);
     let mut p = 0;
     while p < procedures {
         if rows[p][p] {
-            return Verdict::Circle(p);
+            return p;
         }
         p += 1;
     }
-    Verdict::Accepted
+    p
 }
 
 // The set of procedures that each agent leads to, from the lowest agent on: a body has a lower number than its agent.

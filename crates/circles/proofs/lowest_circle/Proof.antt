@@ -1,39 +1,31 @@
--- `circles::lowest_circle`: either table has room for every agent.
-use mathlib.Core.Path.{ap}
+-- `circles::lowest_circle`: the definition's circle, by the procedure found.
+use mathlib.Core.Path.{_≡_, sym, ap, _∙_}
 use borrow.Author.Needs.{needs}
 use native.Mathlib.Omega.{arith}
-use Rattle.format.proofs.Decode.{sizes-few}
+use lib.ListN.{length}
+use Rattle.format.specs.Decode.{decode}
+use Rattle.format.proofs.Decode.{decode-roots}
+use Rattle.circles.proofs.Circle.{lowest-here, lowest-none}
 use Rattle.circles.proofs.lowest_circle.Statement.{statement}
 use Rattle.circles.proofs.lowest_circle.Tie as tie
 
-slice-aggregate-circle-among : tie.Need-slice-aggregate-circle-among
-slice-aggregate-circle-among c = search needs
+circle-by-size-requires : tie.Need-circle-by-size-requires
+circle-by-size-requires c κs = search needs
 
-circle-among-requires : tie.Need-circle-among-requires
-circle-among-requires c κs = search needs
+roots-are : (c : tie.After-circle-by-size) → length (decode (c .before .before .args .s .now) .roots) ≡ c .before .before .args .head .procedures
+roots-are c =
+    let b = c .before .before in
+    decode-roots (b .args .s .now) (b .pre .1 .enough) ∙ sym (ap (λ h. h .procedures) (b .pre .0))
 
 returns : tie.Need-returns
-returns c = search needs
-
-slice-aggregate-circle-among-2 : tie.Need-slice-aggregate-circle-among-2
-slice-aggregate-circle-among-2 c = search needs
-
-circle-among-requires-2 : tie.Need-circle-among-requires-2
-circle-among-requires-2 c κs =
-    let b = c .before .before .before .before in
-    let e = ap (λ h. h .agents) (b .pre .0) in
-    (b .pre .0, (b .pre .1, omega (arith, e, sizes-few (b .args .s .now))))
+returns c =
+    let a = c .before .before in
+    sym (lowest-here (decode (a .before .before .args .s .now)) _ (a .circle-by-size .ensures) (omega (arith, roots-are a)))
 
 returns-2 : tie.Need-returns-2
-returns-2 c = search needs
+returns-2 c =
+    let a = c .before .before in
+    sym (lowest-none (decode (a .before .before .args .s .now)) _ (a .circle-by-size .ensures) (omega (arith, roots-are a)))
 
 pub lowest-circle-spec : {M : Type 1} → statement M
-lowest-circle-spec =
-    tie.close
-    (tie.spec
-    slice-aggregate-circle-among
-    circle-among-requires
-    returns
-    slice-aggregate-circle-among-2
-    circle-among-requires-2
-    returns-2)
+lowest-circle-spec = tie.close (tie.spec circle-by-size-requires returns returns-2)
