@@ -10,9 +10,9 @@ use lib.Seq.{length-take-le}
 use Rattle.tcc.specs.Instant.{startState}
 use Rattle.format.specs.Decode.{decode}
 use Rattle.scorefile.specs.Check.{numberOf, verdict}
-use Rattle.lent.specs.Bits.{bytesOf}
+use Rattle.bits.specs.Bits.{bytesOf}
 use Rattle.lent.specs.States.{asBytes}
-use Rattle.journal.specs.Instants.{inputLists}
+use Rattle.parts.specs.Instants.{inputLists}
 use Rattle.journal.specs.History.{history}
 use Rattle.history.specs.RunCall.{Lent}
 use Rattle.history.proofs.Replies.{run-few}

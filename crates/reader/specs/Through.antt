@@ -12,9 +12,9 @@ use Prim.Native.Nat.{ℕ, zero, suc, _<_, _≤_}
 use lib.ListN.{length, getD}
 use denote.Ref.{RefT, now}
 use Rattle.words.specs.Word.{words}
-use Rattle.journal.specs.declared.Form.the-variants.{Good}
-use Rattle.journal.specs.Form.{formOf}
-use Rattle.journal.specs.Instants.{instantsIn}
+use Rattle.form.specs.declared.Form.the-variants.{Good}
+use Rattle.form.specs.Form.{formOf}
+use Rattle.parts.specs.Instants.{instantsIn}
 use Rattle.reader.specs.Reading.{shownAt, made, movedBy}
 use Rattle.reader.specs.declared.Reader.{Reader}
 

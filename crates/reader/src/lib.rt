@@ -1,7 +1,7 @@
 ghost use mathlib.Core.Path.{_≡_};
 ghost use lib.ListN.{take, drop};
 ghost use Rattle.reader.specs.Reading.{startOf, sizeAt, placeAfter, placeOf, made, movedBy};
-use journal::Form;
+use form::Form;
 
 // A journal, and the position of the instant that is shown next.
 pub struct Reader<'a> {
@@ -46,7 +46,7 @@ pub fn instant(journal: &[u8], tokens: usize, k: usize) -> &[u8]
 fn start_of(journal: &[u8], tokens: usize) -> usize
     ensures { λ r. ⌜ r ≡ startOf tokens (now (journal .entry)) ⌝ }
 {
-    match journal::form_of(journal, tokens, true) {
+    match form::form_of(journal, tokens, true) {
         Form::Good => 0,
         Form::Bytes => journal.len(),
         Form::Word(_) => journal.len(),
@@ -57,7 +57,7 @@ fn start_of(journal: &[u8], tokens: usize) -> usize
 fn part_at(journal: &[u8], at: usize) -> &[u8]
     ensures { λ r. ⌜ now r ≡ take (sizeAt (now (journal .entry)) at) (drop at (now (journal .entry))) ⌝ }
 {
-    journal::part(journal, Form::Good, at)
+    parts::part(journal, Form::Good, at)
 }
 
 // The position so many instants further on.
