@@ -22,7 +22,7 @@ use Rattle.verdicts.specs.Verdicts.{numberOf}
 use Rattle.faults.specs.Faults.{wordVerdict, firstFault, lengthVerdict}
 use Rattle.circles.specs.Circles.{circleFrom}
 use Rattle.scorefile.specs.Check.{verdict}
-use Rattle.lent.specs.Bits.{bitAt, bitsValue, bytesOf}
+use Rattle.bits.specs.Bits.{bitAt, bitsValue, bytesOf}
 use Rattle.lent.specs.Maps.{tokensIn}
 use Rattle.lent.specs.States.{agentsIn, stateFault, agentWords, asBytes, LawfulState}
 use Rattle.lent.proofs.Faults.{fault-running}
@@ -30,9 +30,9 @@ use Rattle.lent.proofs.Round.{lawful-bytes}
 use Rattle.instant.specs.declared.Reply.the-variants.{State, Input}
 use Rattle.lent.specs.Lengths.{stateBytes, mapBytes, scratchBytes, noScratch}
 use Rattle.instant.specs.InstantCall.{Lent, lent, lengthFault, tokenFault, kept, exit}
-use Rattle.journal.specs.declared.Form.the-variants.{Good}
-use Rattle.journal.specs.Form.{mayFollow, firstAgainst, formOf}
-use Rattle.journal.specs.Instants.{upTo, instantsIn, tokensOf, inputLists}
+use Rattle.form.specs.declared.Form.the-variants.{Good}
+use Rattle.form.specs.Form.{mayFollow, firstAgainst, formOf}
+use Rattle.parts.specs.Instants.{upTo, instantsIn, tokensOf, inputLists}
 use Rattle.journal.specs.History.{instantWords}
 use Rattle.history.specs.declared.Stop.{Stop}
 use Rattle.history.specs.declared.Stop.the-variants.{Not, Room}

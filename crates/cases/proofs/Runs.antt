@@ -21,9 +21,9 @@ use Rattle.verdicts.proofs.Verdicts.{accepted-only}
 use Rattle.scorefile.proofs.Lawful.{accepted-lawful, accepted-faultless}
 use Rattle.lent.specs.States.{asBytes, LawfulState}
 use Rattle.lent.proofs.Round.{asBytes-length, lawful-bytes}
-use Rattle.journal.specs.declared.Form.the-variants.{Good}
-use Rattle.journal.specs.Form.{formOf}
-use Rattle.journal.specs.Instants.{inputLists}
+use Rattle.form.specs.declared.Form.the-variants.{Good}
+use Rattle.form.specs.Form.{formOf}
+use Rattle.parts.specs.Instants.{inputLists}
 use Rattle.journal.specs.History.{entry, Rising}
 use Rattle.journal.proofs.Forms.{good-inputs}
 use Rattle.history.specs.declared.Stop.the-variants.{Not, Room}

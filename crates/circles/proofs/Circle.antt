@@ -18,8 +18,7 @@ use native.Mathlib.Omega.{arith}
 use native.Mathlib.Numerals.{add-one}
 use lib.ListN.{length, getD}
 use Rattle.tcc.specs.Score.{Score, rootOf}
-use Rattle.tcc.specs.Unguarded.{Leads, Reaches, UnguardedCall, circular, LowestCircular}
-use Rattle.tcc.specs.Unguarded.{one as one-call, more as more-calls}
+use Rattle.tcc.specs.Unguarded.{Leads, Reaches, UnguardedCall, circular, LowestCircular, one as one-call, more as more-calls}
 use Rattle.tcc.proofs.Unguarded.{CallsKnown, leads-known, circular-exact}
 use Rattle.verdicts.specs.declared.Verdict.{Verdict}
 use Rattle.verdicts.specs.declared.Verdict.the-variants.{Accepted, Circle}

@@ -27,7 +27,7 @@ use Rattle.lent.specs.Maps.{tokensIn}
 use Rattle.lent.specs.States.{stateFault, stateOf, asBytes, LawfulState}
 use Rattle.lent.proofs.Round.{faultless-lawful}
 use Rattle.instant.specs.InstantCall.{tokenFault}
-use Rattle.instant.proofs.Written.{Inside, answer-inside, next-lawful}
+use Rattle.standing.proofs.Inside.{Inside, answer-inside, next-lawful}
 
 abbrev pub given : List ℕ → List ℕ → List ℕ → Answer
 given score s inputs = answer (decode score) (stateOf s) inputs

@@ -16,13 +16,13 @@ use Rattle.format.proofs.Decode.{decode-tokens}
 use Rattle.verdicts.specs.Verdicts as verdicts
 use Rattle.scorefile.specs.Check as check
 use Rattle.words.specs.Word.{words}
-use Rattle.lent.specs.Bits.{bytesOf}
+use Rattle.bits.specs.Bits.{bytesOf}
 use Rattle.lent.specs.States.{stateFault, asBytes, LawfulState}
 use Rattle.lent.specs.Lengths.{scratchBytes}
-use Rattle.journal.specs.declared.Form.{Form}
-use Rattle.journal.specs.declared.Form.the-variants.{Good, Bytes, Word}
-use Rattle.journal.specs.Form.{formOf}
-use Rattle.journal.specs.Instants.{instantsIn, inputsIn}
+use Rattle.form.specs.declared.Form.{Form}
+use Rattle.form.specs.declared.Form.the-variants.{Good, Bytes, Word}
+use Rattle.form.specs.Form.{formOf}
+use Rattle.parts.specs.Instants.{instantsIn, inputsIn}
 use Rattle.journal.specs.History.{entry, Rising, IsHistory}
 use Rattle.journal.proofs.Forms.{good-whole, good-instants, good-words, bytes-words}
 use Rattle.journal.proofs.Histories.{history-joined, history-good, history-instants}

@@ -4,8 +4,8 @@
 --     journal-exact      both: the theorem
 use mathlib.Core.Path.{refl, sym, ap, _∙_}
 use lib.ListN.{take}
-use Rattle.lent.specs.Bits.{bytesOf}
-use Rattle.journal.specs.Instants.{inputLists}
+use Rattle.bits.specs.Bits.{bytesOf}
+use Rattle.parts.specs.Instants.{inputLists}
 use Rattle.score.specs.Answer.{numberOf, valueOf}
 use Rattle.score.specs.ScoreRun.{ofRunReply}
 use Rattle.score.proofs.ScoreJournalCheck.{read}

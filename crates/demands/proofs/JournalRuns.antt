@@ -11,9 +11,9 @@ use Rattle.tcc.specs.Instant.{startState}
 use Rattle.format.specs.Decode.{decode}
 use Rattle.verdicts.specs.Verdicts.{numberOf}
 use Rattle.scorefile.specs.Check.{verdict}
-use Rattle.lent.specs.Bits.{bytesOf}
+use Rattle.bits.specs.Bits.{bytesOf}
 use Rattle.lent.specs.States.{asBytes}
-use Rattle.journal.specs.Instants.{inputLists}
+use Rattle.parts.specs.Instants.{inputLists}
 use Rattle.journal.specs.History.{history}
 use Rattle.history.specs.RunCall.{Lent}
 use Rattle.history.proofs.Replies.{run-few}

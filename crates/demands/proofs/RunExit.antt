@@ -22,10 +22,10 @@ use Rattle.scorefile.specs.Check as check
 use Rattle.lent.specs.Lengths.{stateBytes, scratchBytes}
 use Rattle.lent.specs.States.{stateFault, asBytes}
 use Rattle.verdicts.proofs.Verdicts.{number-few}
-use Rattle.journal.specs.declared.Form.{Form}
-use Rattle.journal.specs.declared.Form.the-variants.{Good, Bytes, Word}
-use Rattle.journal.specs.Form.{formOf}
-use Rattle.journal.specs.Instants.{inputLists}
+use Rattle.form.specs.declared.Form.{Form}
+use Rattle.form.specs.declared.Form.the-variants.{Good, Bytes, Word}
+use Rattle.form.specs.Form.{formOf}
+use Rattle.parts.specs.Instants.{inputLists}
 use Rattle.journal.specs.History.{entry, Rising}
 use Rattle.journal.proofs.Forms.{good-inputs}
 use Rattle.journal.proofs.Rising.{rising-below}

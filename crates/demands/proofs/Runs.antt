@@ -16,9 +16,9 @@ use lib.ListN.{length, take, drop}
 use Rattle.tcc.specs.Instant.{Answer, after}
 use Rattle.tcc.proofs.Sets.{on-cons}
 use Rattle.format.specs.Decode.{decode}
-use Rattle.lent.specs.Bits.{bytesOf}
+use Rattle.bits.specs.Bits.{bytesOf}
 use Rattle.lent.specs.States.{asBytes}
-use Rattle.journal.specs.Instants.{inputLists}
+use Rattle.parts.specs.Instants.{inputLists}
 use Rattle.journal.specs.History.{entry}
 use Rattle.history.specs.declared.Stop.{Stop}
 use Rattle.history.specs.declared.Stop.the-variants.{Not, Next, Room}

@@ -18,7 +18,7 @@ use lib.Dec.{eqb}
 use lib.ListN.{take}
 use Rattle.lent.specs.Maps.{tokensIn, mapOf}
 use Rattle.instant.specs.InstantCall.{Lent}
-use Rattle.journal.specs.Instants.{inputLists}
+use Rattle.parts.specs.Instants.{inputLists}
 use Rattle.history.specs.RunCall.{Lent as RunLent}
 use Rattle.score.specs.Answer.{numberIn, valueIn, statusIn}
 use Rattle.score.specs.ScoreInstant.{ScoreInstant}

@@ -26,10 +26,10 @@ use Rattle.tcc.specs.Chain.{Chain}
 use Rattle.tcc.specs.Instant.{running}
 use Rattle.tcc.specs.Instant as state
 use Rattle.format.specs.Decode.{decode}
-use Rattle.lent.specs.Bits.{bytesOf}
+use Rattle.bits.specs.Bits.{bytesOf}
 use Rattle.lent.specs.Maps.{tokensIn}
 use Rattle.lent.specs.States.{agentsIn, stateOf}
-use Rattle.journal.specs.Instants.{inputLists}
+use Rattle.parts.specs.Instants.{inputLists}
 use Rattle.journal.specs.History.{instantWords}
 use Rattle.instant.specs.InstantCall.{Lent}
 use Rattle.history.specs.RunCall.{Lent as RunLent}

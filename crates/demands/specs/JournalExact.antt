@@ -13,10 +13,10 @@ use Rattle.tcc.specs.Instant.{startState}
 use Rattle.format.specs.Decode.{decode}
 use Rattle.verdicts.specs.Verdicts.{numberOf}
 use Rattle.scorefile.specs.Check.{verdict}
-use Rattle.lent.specs.Bits.{bytesOf}
+use Rattle.bits.specs.Bits.{bytesOf}
 use Rattle.lent.specs.States.{asBytes}
 use Rattle.lent.specs.Lengths.{scratchBytes}
-use Rattle.journal.specs.Instants.{inputLists}
+use Rattle.parts.specs.Instants.{inputLists}
 use Rattle.journal.specs.History.{history, IsHistory}
 use Rattle.history.specs.RunCall.{Lent}
 use Rattle.score.specs.Answer.{numberIn, valueIn}

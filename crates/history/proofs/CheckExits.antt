@@ -11,8 +11,8 @@ use Rattle.scorefile.specs.Check.{verdict}
 use Rattle.lent.specs.Lengths.{scratchBytes, noScratch}
 use Rattle.verdicts.specs.declared.Verdict.{Verdict}
 use Rattle.verdicts.specs.Verdicts.{numberOf}
-use Rattle.journal.specs.declared.Form.the-variants.{Good, Bytes, Word}
-use Rattle.journal.specs.Form.{formOf}
+use Rattle.form.specs.declared.Form.the-variants.{Good, Bytes, Word}
+use Rattle.form.specs.Form.{formOf}
 use Rattle.history.specs.declared.Reply.the-variants.{Score as Turned, Lengths, Bytes as NoWords, Word as Against}
 use Rattle.history.specs.JournalCheckCall.{left, exit}
 use Rattle.history.proofs.Checks.{checked}

@@ -21,14 +21,14 @@ use Rattle.words.specs.Word.{words}
 use Rattle.format.specs.Decode.{sizes, decode}
 use Rattle.store.specs.Playable.{Playable}
 use Rattle.lent.specs.States.{stateFault, stateOf, asBytes, LawfulState}
-use Rattle.instant.specs.declared.Standing.{Standing}
-use Rattle.instant.specs.Standing.{stateIn}
-use Rattle.journal.specs.declared.Form.the-variants.{Good}
-use Rattle.journal.specs.Form.{formOf}
-use Rattle.journal.specs.Instants.{instantsIn, inputsIn, partAt}
+use Rattle.standing.specs.declared.Standing.{Standing}
+use Rattle.standing.specs.Standing.{stateIn}
+use Rattle.form.specs.declared.Form.the-variants.{Good}
+use Rattle.form.specs.Form.{formOf}
+use Rattle.parts.specs.Instants.{instantsIn, inputsIn, partAt}
 use Rattle.journal.specs.History.{entry}
 use Rattle.journal.proofs.Forms.{good-instants}
-use Rattle.journal.proofs.Parts.{instants-end}
+use Rattle.parts.proofs.Parts.{instants-end}
 use Rattle.history.specs.declared.Reply.{Reply}
 use Rattle.history.specs.declared.Reply.the-variants.{Unlawful, Differs, Accepted}
 use Rattle.history.specs.declared.Checked.{Checked}

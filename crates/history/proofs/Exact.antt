@@ -27,8 +27,8 @@ use Rattle.format.proofs.Decode.{sizes-few}
 use Rattle.lent.specs.States.{stateFault, stateOf, asBytes, LawfulState, SameState}
 use Rattle.lent.proofs.Round.{state-round, asBytes-same, lawful-bytes}
 use Rattle.lent.proofs.SameState.{answer-same, after-same}
-use Rattle.instant.proofs.Written.{answer-inside, after-lawful}
-use Rattle.journal.specs.Instants.{inputsIn}
+use Rattle.standing.proofs.Inside.{answer-inside, after-lawful}
+use Rattle.parts.specs.Instants.{inputsIn}
 use Rattle.journal.specs.History.{entry, history, Rising}
 use Rattle.journal.proofs.Rising.{rising-below}
 use Rattle.journal.proofs.Histories.{entry-same, entry-inputs, entries}

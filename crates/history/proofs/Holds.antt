@@ -18,9 +18,9 @@ use Rattle.store.specs.Playable.{Playable}
 use Rattle.engine.specs.declared.Outcome.{Outcome}
 use Rattle.engine.specs.Outcome.{outcomeOf}
 use Rattle.lent.specs.States.{stateOf, asBytes, LawfulState}
-use Rattle.instant.specs.Standing.{stateIn}
-use Rattle.instant.proofs.Written.{Inside, flags-known}
-use Rattle.journal.specs.Instants.{inputsIn}
+use Rattle.standing.specs.Standing.{stateIn}
+use Rattle.standing.proofs.Inside.{Inside, flags-known}
+use Rattle.parts.specs.Instants.{inputsIn}
 use Rattle.journal.specs.History.{instantWords, entry}
 use Rattle.journal.proofs.Histories.{answer-status}
 use Rattle.journal.proofs.Rising.{rising-below, rising-set}

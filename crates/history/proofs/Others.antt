@@ -18,8 +18,8 @@ use Rattle.words.specs.Word.{field}
 use Rattle.store.specs.Flags.{setOf, flagsOf}
 use Rattle.store.proofs.Flags.{flags-settled}
 use Rattle.faults.proofs.Accepted.{neither}
-use Rattle.journal.specs.Form.{statusOf}
-use Rattle.journal.specs.Instants.{tokensOf, inputsIn}
+use Rattle.form.specs.Form.{statusOf}
+use Rattle.parts.specs.Instants.{tokensOf, inputsIn}
 use Rattle.journal.specs.History.{instantWords, Rising}
 use Rattle.journal.proofs.Rising.{rising-below, rising-within, rising-set, flags-rising}
 use Rattle.journal.proofs.Formed.{words-outputs}

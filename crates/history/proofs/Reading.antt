@@ -13,12 +13,12 @@ use native.Mathlib.Omega.{arith}
 use lib.ListN.{length, drop, length-drop, drop-of-length-le}
 use lib.Seq.{drop-drop}
 use Rattle.words.specs.Word.{words, wordAt}
-use Rattle.journal.specs.declared.Form.the-variants.{Good}
-use Rattle.journal.specs.Form.{isInstant, formOf}
-use Rattle.journal.specs.Instants.{instantsIn, inputsIn, inputLists, span, partFrom, partAt}
+use Rattle.form.specs.declared.Form.the-variants.{Good}
+use Rattle.form.specs.Form.{isInstant, formOf}
+use Rattle.parts.specs.Instants.{instantsIn, inputsIn, inputLists, span, partFrom, partAt}
 use Rattle.journal.specs.History.{Rising}
 use Rattle.journal.proofs.Forms.{good-inputs}
-use Rattle.journal.proofs.Parts.{instants-step, part-starts, part-length, part-on, rest-length, span-fits, span-positive, starts-some, good-starts, good-four, instants-end}
+use Rattle.parts.proofs.Parts.{instants-step, part-starts, part-length, part-on, rest-length, span-fits, span-positive, starts-some, good-starts, good-four, instants-end}
 
 pub record Reading (tokens : ℕ) (bytes : List ℕ) (at : ℕ) : Type 0 where
   pub aligned : at % 4 ≡ 0

@@ -17,10 +17,10 @@ use Rattle.words.specs.Word.{words}
 use Rattle.words.proofs.Words.{words-length}
 use Rattle.lent.specs.States.{stateFault, asBytes}
 use Rattle.lent.specs.Lengths.{scratchBytes}
-use Rattle.journal.specs.declared.Form.{Form}
-use Rattle.journal.specs.declared.Form.the-variants.{Good, Bytes as NotWhole, Word as Wrong}
-use Rattle.journal.specs.Form.{formOf}
-use Rattle.journal.specs.Instants.{instantsIn, inputsIn, inputLists}
+use Rattle.form.specs.declared.Form.{Form}
+use Rattle.form.specs.declared.Form.the-variants.{Good, Bytes as NotWhole, Word as Wrong}
+use Rattle.form.specs.Form.{formOf}
+use Rattle.parts.specs.Instants.{instantsIn, inputsIn, inputLists}
 use Rattle.journal.specs.History.{entry}
 use Rattle.journal.proofs.Counts.{against-few, instants-few}
 use Rattle.history.specs.declared.Stop.{Stop}

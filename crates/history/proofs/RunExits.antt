@@ -15,10 +15,10 @@ use Rattle.lent.specs.States.{stateFault}
 use Rattle.verdicts.specs.declared.Verdict.{Verdict}
 use Rattle.verdicts.specs.Verdicts.{numberOf}
 use Rattle.faults.proofs.Accepted.{neither}
-use Rattle.instant.proofs.Exits.{right}
-use Rattle.journal.specs.declared.Form.the-variants.{Good, Bytes, Word}
-use Rattle.journal.specs.Form.{formOf}
-use Rattle.journal.specs.Instants.{inputLists}
+use Rattle.lent.proofs.Lengths.{right}
+use Rattle.form.specs.declared.Form.the-variants.{Good, Bytes, Word}
+use Rattle.form.specs.Form.{formOf}
+use Rattle.parts.specs.Instants.{inputLists}
 use Rattle.history.specs.declared.Reply.{Reply}
 use Rattle.history.specs.declared.Reply.the-variants.{Score as Turned, Lengths, State, Bytes as NoWords, Word as Against}
 use Rattle.history.specs.Run.{Ran, runFrom}

@@ -19,13 +19,13 @@ use lib.Seq.{take-at, drop-append-add, drop-drop, drop-length, take-all}
 use borrow.Rule.Slice.PartMut.{putMid, post-is}
 use Rattle.tcc.specs.Instant.{State, Answer, answer, after}
 use Rattle.format.specs.Decode.{sizes, decode}
-use Rattle.lent.specs.Bits.{bytesOf}
+use Rattle.bits.specs.Bits.{bytesOf}
 use Rattle.lent.specs.States.{stateOf, asBytes, LawfulState, SameState}
-use Rattle.lent.proofs.Bytes.{bytesOf-length, bytesOf-append, Written}
+use Rattle.bits.proofs.Bytes.{bytesOf-length, bytesOf-append, Written}
 use Rattle.lent.proofs.Round.{asBytes-same}
-use Rattle.instant.specs.Standing.{stateIn}
-use Rattle.instant.specs.declared.Standing.{Standing}
-use Rattle.journal.specs.Instants.{inputLists}
+use Rattle.standing.specs.Standing.{stateIn}
+use Rattle.standing.specs.declared.Standing.{Standing}
+use Rattle.parts.specs.Instants.{inputLists}
 use Rattle.journal.specs.History.{entry}
 use Rattle.history.specs.declared.Stop.{Stop}
 use Rattle.history.specs.declared.Stop.the-variants.{Not, Next, Room}

@@ -20,7 +20,7 @@ use Rattle.store.specs.Playable.{Playable}
 use Rattle.store.proofs.Flags.{set-here, set-cases, setOf-none, flags-settled}
 use Rattle.lent.specs.States.{stateOf, asBytes, LawfulState}
 use Rattle.lent.proofs.Round.{state-round, asBytes-same, lawful-bytes, faultless-lawful}
-use Rattle.instant.specs.Standing.{stateIn}
+use Rattle.standing.specs.Standing.{stateIn}
 use Rattle.history.proofs.Steps.{same-running}
 
 one-flag : (n t : ℕ) → t < n → set (replicate n false) t true ≡ flagsOf n (t ∷ [])

@@ -20,10 +20,10 @@ use Rattle.store.specs.Flags.{setOf, flagsOf}
 use Rattle.store.proofs.Flags.{flagsOf-same}
 use Rattle.lent.specs.States.{abortedWord, agentsIn, stateFault, stateOf, asBytes, LawfulState, SameState}
 use Rattle.lent.proofs.Agents.{agents-set}
-use Rattle.lent.proofs.Filled.{from-none}
+use Rattle.bits.proofs.Filled.{from-none}
 use Rattle.lent.proofs.Round.{state-round, faultless-lawful}
-use Rattle.instant.specs.Standing.{stateIn}
-use Rattle.instant.proofs.Written.{Inside, flags-back, flags-known, next-lawful}
+use Rattle.standing.specs.Standing.{stateIn}
+use Rattle.standing.proofs.Inside.{Inside, flags-back, flags-known, next-lawful}
 use Rattle.journal.specs.History.{instantWords, entry}
 use Rattle.journal.proofs.Rising.{output-rising, output-same, rising-set}
 

@@ -25,13 +25,13 @@ use Rattle.store.specs.Playable.{Playable}
 use Rattle.store.proofs.Flags.{member-flag}
 use Rattle.engine.specs.declared.Outcome.{Outcome}
 use Rattle.engine.specs.Outcome.{outcomeOf}
-use Rattle.lent.specs.Bits.{bytesOf}
+use Rattle.bits.specs.Bits.{bytesOf}
 use Rattle.lent.specs.States.{stateFault, stateOf, asBytes, LawfulState, SameState}
 use Rattle.lent.proofs.Round.{state-round}
-use Rattle.instant.specs.declared.Standing.{Standing}
-use Rattle.instant.specs.Standing.{stateIn}
-use Rattle.instant.proofs.Ports.{output-below}
-use Rattle.instant.proofs.Written.{Inside, answer-inside, flags-known}
+use Rattle.standing.specs.declared.Standing.{Standing}
+use Rattle.standing.specs.Standing.{stateIn}
+use Rattle.standing.proofs.Ports.{output-below}
+use Rattle.standing.proofs.Inside.{Inside, answer-inside, flags-known}
 use Rattle.journal.specs.History.{instantWords, entry}
 use Rattle.journal.proofs.Histories.{answer-status}
 use Rattle.history.specs.declared.Stop.{Stop}

@@ -11,9 +11,9 @@ use lib.Dec.{eqb}
 use lib.ListN.{length, drop}
 use Rattle.tcc.specs.Instant.{State, Answer, answer, after}
 use Rattle.format.specs.Decode.{sizes, decode}
-use Rattle.lent.specs.Bits.{bytesOf}
+use Rattle.bits.specs.Bits.{bytesOf}
 use Rattle.lent.specs.States.{stateOf, asBytes, LawfulState}
-use Rattle.instant.specs.Standing.{stateIn}
+use Rattle.standing.specs.Standing.{stateIn}
 use Rattle.journal.specs.History.{entry}
 use Rattle.history.specs.declared.Stop.the-variants.{Not}
 use Rattle.history.specs.declared.Taken.{Taken}

@@ -9,9 +9,9 @@ use lib.ListN.{getD}
 use Rattle.tcc.specs.Instant.{Answer, after}
 use Rattle.format.specs.Decode.{sizes, decode}
 use Rattle.lent.specs.States.{stateFault, stateOf, asBytes, LawfulState}
-use Rattle.instant.specs.Standing.{stateIn}
-use Rattle.journal.specs.Form.{statusOf}
-use Rattle.journal.specs.Instants.{tokensOf, inputsIn}
+use Rattle.standing.specs.Standing.{stateIn}
+use Rattle.form.specs.Form.{statusOf}
+use Rattle.parts.specs.Instants.{tokensOf, inputsIn}
 use Rattle.journal.specs.History.{instantWords, entry, Rising}
 use Rattle.history.specs.declared.Checked.{Checked}
 use Rattle.history.specs.Run.{same}

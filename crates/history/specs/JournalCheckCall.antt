@@ -16,10 +16,10 @@ use Rattle.scorefile.specs.Check.{verdict}
 use Rattle.words.specs.Word.{words}
 use Rattle.lent.specs.States.{asBytes}
 use Rattle.lent.specs.Lengths.{scratchBytes, noScratch}
-use Rattle.journal.specs.declared.Form.{Form}
-use Rattle.journal.specs.declared.Form.the-variants.{Good, Bytes, Word}
-use Rattle.journal.specs.Form.{formOf}
-use Rattle.journal.specs.Instants.{instantsIn}
+use Rattle.form.specs.declared.Form.{Form}
+use Rattle.form.specs.declared.Form.the-variants.{Good, Bytes, Word}
+use Rattle.form.specs.Form.{formOf}
+use Rattle.parts.specs.Instants.{instantsIn}
 use Rattle.history.specs.declared.Reply.{Reply}
 use Rattle.history.specs.declared.Reply.the-variants.{Score as Turned, Lengths, Bytes as NoWords, Word as Against}
 use Rattle.history.specs.Run.{checkFrom}

@@ -15,7 +15,7 @@ use lib.ListN.{length}
 use Rattle.tcc.specs.Instant.{Answer, answer, after}
 use Rattle.format.specs.Decode.{sizes, decode}
 use Rattle.lent.specs.States.{stateFault, stateOf, asBytes}
-use Rattle.journal.specs.Instants.{inputsIn}
+use Rattle.parts.specs.Instants.{inputsIn}
 use Rattle.journal.specs.History.{entry}
 use Rattle.history.specs.declared.Stop.{Stop}
 use Rattle.history.specs.declared.Stop.the-variants.{Not, Next, Room}

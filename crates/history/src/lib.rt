@@ -11,19 +11,19 @@ ghost use Rattle.store.specs.Flags.{setOf};
 ghost use Rattle.store.specs.Playable.{Playable};
 ghost use Rattle.lent.specs.Lengths.{stateBytes, scratchBytes};
 ghost use Rattle.lent.specs.States.{stateFault, stateOf, asBytes, LawfulState};
-ghost use Rattle.instant.specs.Standing.{stateIn};
-ghost use Rattle.journal.specs.declared.Form.the-variants.{Good};
-ghost use Rattle.journal.specs.Form.{formOf};
-ghost use Rattle.journal.specs.Instants.{instantsIn, inputsIn, inputLists};
+ghost use Rattle.standing.specs.Standing.{stateIn};
+ghost use Rattle.form.specs.declared.Form.the-variants.{Good};
+ghost use Rattle.form.specs.Form.{formOf};
+ghost use Rattle.parts.specs.Instants.{instantsIn, inputsIn, inputLists};
 ghost use Rattle.journal.specs.History.{instantWords, entry, Rising};
 ghost use Rattle.history.specs.Run.{stopBy, goesOn, runFrom, same, checkFrom};
 ghost use Rattle.history.specs.Advance.{Advanced, RanTo, LeftBy};
 ghost use Rattle.history.specs.RunCall.{lent, ending, RunCall};
 ghost use Rattle.history.specs.Held.{Formed, Held};
 ghost use Rattle.history.specs.JournalCheckCall.{JournalCheckCall};
+use form::Form;
 use format::Sizes;
-use instant::Standing;
-use journal::Form;
+use standing::Standing;
 use store::Tokens;
 use verdicts::Verdict;
 
@@ -103,11 +103,11 @@ pub fn run(
     if lent::state_fault(state, head.agents) {
         return Reply::State;
     }
-    match journal::form_of(inputs, head.tokens, false) {
+    match form::form_of(inputs, head.tokens, false) {
         Form::Bytes => Reply::Bytes,
         Form::Word(k) => Reply::Word(k),
         Form::Good => {
-            lent::clear(scratch);
+            bits::clear(scratch);
             run_from(score, head, state, inputs, journal)
         }
     }
@@ -122,7 +122,7 @@ fn run_from(score: &[u8], head: Sizes, state: &mut [u8], inputs: &[u8], journal:
     requires { ⌜ formOf false (sizes (now score) .tokens) (now inputs) ≡ Good ⌝ }
     ensures { λ r. ⌜ LeftBy (runFrom (now (score .entry)) (now (state .entry)) (length (now (journal .entry))) (inputLists (now (inputs .entry)))) (now (journal .entry)) (now (state .exit)) (now (journal .exit)) r ⌝ }
 {
-    let standing = instant::standing_in(state);
+    let standing = standing::standing_in(state);
     let ended = run_list(score, head, standing, inputs, journal);
     keep(state, head.agents, ended);
     let stop = ended.stop;
@@ -157,7 +157,7 @@ fn keep(state: &mut [u8], agents: usize, ended: Ended)
         return;
     }
     let standing = ended.standing;
-    instant::write_standing(state, agents, standing);
+    standing::write_standing(state, agents, standing);
 }
 
 // Plays the instants of a list of good form and writes each whole one that fits.
@@ -179,8 +179,8 @@ fn run_list(
     let mut at = 0;
     let mut filled = 0;
     while at < inputs.len() {
-        let here = journal::part(inputs, Form::Good, at);
-        let told = journal::tokens_in(here, 13);
+        let here = parts::part(inputs, Form::Good, at);
+        let told = parts::tokens_in(here, 13);
         let taken = advance(score, head, stands, told, &mut journal[filled..]);
         let stop = taken.stop;
         if goes_on(stop) {
@@ -211,13 +211,13 @@ fn advance(score: &[u8], head: Sizes, standing: Standing, told: Tokens, journal:
     requires { ⌜ ((t : ℕ) → sizes (now score) .tokens ≤ t → getD told t false ≡ false) ⌝ }
     ensures { λ r. ⌜ Advanced (now (score .entry)) (answer (decode (now (score .entry))) (stateIn standing) (setOf told)) (entry (decode (now (score .entry))) (setOf told) (answer (decode (now (score .entry))) (stateIn standing) (setOf told))) (now (journal .entry)) (now (journal .exit)) r ⌝ }
 {
-    let outcome = instant::answer_from(score, head, standing, told);
+    let outcome = standing::answer_from(score, head, standing, told);
     let awake = outcome.awake;
     let held = outcome.store;
-    let out = instant::sent(score, held);
+    let out = standing::sent(score, held);
     let bytes = journal::size(head.tokens, &told, &out);
-    let stop = stop_by(lent::any_from(&awake, head.agents), bytes, journal.len());
-    let after = instant::standing_after(outcome);
+    let stop = stop_by(bits::any_from(&awake, head.agents), bytes, journal.len());
+    let after = standing::standing_after(outcome);
     if goes_on(stop) {
         journal::write(journal, outcome.status, head.tokens, &told, &out);
         return Taken {
@@ -270,11 +270,11 @@ pub fn journal_check(score: &[u8], journal: &[u8], scratch: &mut [u8]) -> Reply
         return Reply::Lengths;
     }
     let head = format::sizes_of(words::word_at(score, 0));
-    match journal::form_of(journal, head.tokens, true) {
+    match form::form_of(journal, head.tokens, true) {
         Form::Bytes => Reply::Bytes,
         Form::Word(k) => Reply::Word(k),
         Form::Good => {
-            lent::clear(scratch);
+            bits::clear(scratch);
             check_list(score, head, journal)
         }
     }
@@ -291,7 +291,7 @@ fn check_list(score: &[u8], head: Sizes, journal: &[u8]) -> Reply
     let mut instants = 0;
     let mut at = 0;
     while at < journal.len() {
-        let here = journal::part(journal, Form::Good, at);
+        let here = parts::part(journal, Form::Good, at);
         let checked = check_instant(score, head, stands, here);
         if checked.unlawful {
             return Reply::Unlawful;
@@ -329,7 +329,7 @@ pub fn write_start(score: &[u8], state: &mut [u8])
 {
     let head = format::sizes_of(words::word_at(score, 0));
     let standing = start(score, head);
-    instant::write_standing(state, head.agents, standing);
+    standing::write_standing(state, head.agents, standing);
 }
 
 // Plays the instant that the words of a journal tell, and holds its words against them.
@@ -340,14 +340,14 @@ fn check_instant(score: &[u8], head: Sizes, standing: Standing, here: &[u8]) -> 
     requires { ⌜ Formed (sizes (now score) .tokens) (words (now here)) ⌝ }
     ensures { λ r. ⌜ Held (now (score .entry)) (answer (decode (now (score .entry))) (stateIn standing) (inputsIn (words (now (here .entry))))) (words (now (here .entry))) r ⌝ }
 {
-    let told = journal::tokens_in(here, 13);
-    let outcome = instant::answer_from(score, head, standing, told);
+    let told = parts::tokens_in(here, 13);
+    let outcome = standing::answer_from(score, head, standing, told);
     let awake = outcome.awake;
     let held = outcome.store;
-    let out = instant::sent(score, held);
-    let unlawful = lent::any_from(&awake, head.agents);
+    let out = standing::sent(score, held);
+    let unlawful = bits::any_from(&awake, head.agents);
     let differs = differs_from(here, outcome.status, &out);
-    let after = instant::standing_after(outcome);
+    let after = standing::standing_after(outcome);
     Checked {
         unlawful,
         differs,
@@ -362,7 +362,7 @@ fn differs_from(here: &[u8], status: usize, out: &[bool]) -> bool
     requires { ⌜ length (now out) ≡ 256 ⌝ }
     ensures { λ r. ⌜ r ≡ not (same (words (now (here .entry))) (instantWords status (inputsIn (words (now (here .entry)))) (setOf (now (out .entry))))) ⌝ }
 {
-    let said = journal::tokens_in(here, 14);
+    let said = parts::tokens_in(here, 14);
     (format::number(words::word_at(here, 0), 0, 2) != status) | any_other(&said, out)
 }
 

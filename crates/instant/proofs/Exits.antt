@@ -4,7 +4,7 @@ use mathlib.Core.Path.{_≡_, refl, sym, ap, _∙_}
 use mathlib.Core.Bool.{Bool, true, false, not, _||_, true≢false}
 use mathlib.Core.List.{List}
 use Prim.Native.Nat.{ℕ}
-use borrow.Author.Tests.{eq-eqb, ne-eqb, eqb-true, not-false}
+use borrow.Author.Tests.{eq-eqb, ne-eqb}
 use lib.Dec.{eqb}
 use lib.ListN.{length}
 use Rattle.tcc.specs.Instant.{Answer, answer, after}
@@ -16,6 +16,7 @@ use Rattle.lent.specs.States.{stateFault, stateOf, asBytes}
 use Rattle.verdicts.specs.declared.Verdict.{Verdict}
 use Rattle.verdicts.specs.Verdicts.{numberOf}
 use Rattle.faults.proofs.Accepted.{neither}
+use Rattle.lent.proofs.Lengths.{right}
 use Rattle.instant.specs.declared.Reply.the-variants.{Score as Turned, Lengths, State, Input}
 use Rattle.instant.specs.InstantCall.{Lent, Exit, lengthFault, tokenFault, kept, answered, exit}
 
@@ -51,9 +52,6 @@ pub record Lengths-are (given : List ℕ) (l : Lent) : Type 0 where
   pub store-long : length (l .store) ≡ mapBytes
   pub output-long : length (l .output) ≡ mapBytes
   pub scratch-long : length (l .scratch) ≡ scratchBytes
-
-pub right : (m n : ℕ) → not (eqb m n) ≡ false → m ≡ n
-right m n e = eqb-true m n (not-false (eqb m n) e)
 
 pub right-lengths : (given : List ℕ) (l : Lent) → lengthFault given l ≡ false → Lengths-are given l
 right-lengths given l e =

@@ -1,4 +1,2 @@
-pub mod Standings
-pub mod Ports
 pub mod Exits
 pub mod Written

@@ -14,7 +14,7 @@ use Rattle.format.specs.declared.Sizes.{Sizes}
 use Rattle.store.specs.Flags.{setOf}
 use Rattle.engine.specs.declared.Outcome.{Outcome}
 use Rattle.lent.specs.Lengths.{stateBytes, mapBytes}
-use Rattle.lent.specs.Bits.{bytesOf}
+use Rattle.bits.specs.Bits.{bytesOf}
 use Rattle.lent.specs.Maps.{mapOf}
 use Rattle.lent.specs.States.{runningWord, abortedWord, agentWords}
 

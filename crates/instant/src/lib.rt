@@ -1,22 +1,18 @@
 ghost use mathlib.Core.Path.{_≡_};
-ghost use mathlib.Core.Bool.{false, cond, _&&_, _||_, not};
-ghost use mathlib.Core.List.{_∷_};
-ghost use Prim.Native.Nat.{ℕ, _<_, _≤_};
-ghost use lib.Dec.{eqb, leb};
-ghost use lib.ListN.{length, getD};
-ghost use Rattle.tcc.specs.Instant.{output, answer};
+ghost use mathlib.Core.Bool.{cond, _||_, not};
+ghost use lib.Dec.{eqb};
+ghost use lib.ListN.{length};
+ghost use Rattle.tcc.specs.Instant.{answer};
 ghost use Rattle.format.specs.Decode.{sizes, decode};
-ghost use Rattle.store.specs.Flags.{setOf, flagsOf};
+ghost use Rattle.store.specs.Flags.{setOf};
 ghost use Rattle.store.specs.Playable.{Playable};
 ghost use Rattle.engine.specs.Outcome.{outcomeOf};
 ghost use Rattle.lent.specs.Lengths.{stateBytes, mapBytes, scratchBytes};
-ghost use Rattle.lent.specs.States.{runningWord, abortedWord, stateOf, asBytes, LawfulState};
+ghost use Rattle.lent.specs.States.{runningWord, abortedWord, stateOf};
 ghost use Rattle.instant.specs.InstantCall.{lent, InstantCall};
-ghost use Rattle.instant.specs.Standing.{stateIn, standingIn};
 ghost use Rattle.instant.specs.HandedOver.{Buffers, Known, HandedOver};
 use engine::Outcome;
 use format::Sizes;
-use store::Agents;
 use store::Tokens;
 use verdicts::Verdict;
 
@@ -34,12 +30,6 @@ pub enum Reply {
     Next,
     // Answered: the status and the count.
     Settled(usize, usize),
-}
-
-// Where a score stands between two instants.
-pub struct Standing {
-    pub running: bool,
-    pub awake: Agents,
 }
 
 // One instant of a score over lent buffers.
@@ -71,13 +61,13 @@ pub fn call(
         return Reply::State;
     }
     let inputs = lent::read_map(input);
-    if lent::any_from(&inputs, head.tokens) {
+    if bits::any_from(&inputs, head.tokens) {
         return Reply::Input;
     }
     let outcome = answer_in(score, head, state, inputs);
-    lent::clear(scratch);
+    bits::clear(scratch);
     let awake = outcome.awake;
-    if lent::any_from(&awake, head.agents) {
+    if bits::any_from(&awake, head.agents) {
         return Reply::Next;
     }
     hand_over(score, head, outcome, state, store, output);
@@ -104,7 +94,7 @@ fn hand_over(
     let first = first_word(outcome.status);
     lent::write_state(state, first, head.agents, awake);
     lent::write_map(store, head.tokens, held);
-    let out = sent(score, held);
+    let out = standing::sent(score, held);
     lent::write_map(output, head.tokens, out);
 }
 
@@ -137,88 +127,5 @@ fn answer_in(score: &[u8], head: Sizes, state: &[u8], inputs: Tokens) -> Outcome
     requires { ⌜ length (now state) ≡ stateBytes ⌝ }
     ensures { λ r. ⌜ r ≡ outcomeOf (answer (decode (now (score .entry))) (stateOf (now (state .entry))) (setOf inputs)) ⌝ }
 {
-    answer_from(score, head, standing_in(state), inputs)
-}
-
-// Where a score stands in a state.
-pub fn standing_in(state: &[u8]) -> Standing
-    requires { ⌜ length (now state) ≡ stateBytes ⌝ }
-    ensures { λ r. ⌜ r ≡ standingIn (now (state .entry)) ⌝ }
-{
-    let running = words::word_at(state, 0) != lent::ABORTED;
-    let awake = lent::read_agents(state);
-    Standing { running, awake }
-}
-
-// The answer from where a score stands: an aborted one stays aborted.
-pub fn answer_from(score: &[u8], head: Sizes, standing: Standing, inputs: Tokens) -> Outcome
-    requires { ⌜ head ≡ sizes (now score) ⌝ }
-    requires { ⌜ Playable (now score) ⌝ }
-    ensures { λ r. ⌜ r ≡ outcomeOf (answer (decode (now (score .entry))) (stateIn standing) (setOf inputs)) ⌝ }
-{
-    let awake = standing.awake;
-    if standing.running {
-        engine::play(score, head, awake, inputs)
-    } else {
-        Outcome {
-            status: 2,
-            count: 0,
-            store: [false; 256],
-            awake: [false; 1024],
-        }
-    }
-}
-
-// Where a score stands after an outcome.
-pub fn standing_after(outcome: Outcome) -> Standing
-    ensures { λ r. ⌜ (r .running ≡ not (eqb (outcome .status) 2)) × (r .awake ≡ outcome .awake) ⌝ }
-{
-    let awake = outcome.awake;
-    Standing {
-        running: outcome.status != 2,
-        awake,
-    }
-}
-
-// Writes the state that a score stands in.
-pub fn write_standing(state: &mut [u8], agents: usize, standing: Standing)
-    requires { ⌜ length (now state) ≡ stateBytes ⌝ }
-    requires { ⌜ LawfulState agents (stateIn standing) ⌝ }
-    ensures { λ _. ⌜ now (state .exit) ≡ asBytes (stateIn standing) ⌝ }
-{
-    let awake = standing.awake;
-    if standing.running {
-        lent::write_state(state, lent::RUNNING, agents, awake);
-        return;
-    }
-    lent::write_state(state, lent::ABORTED, 0, [false; 1024]);
-}
-
-// What goes to the ports of a store: the one place where outputs are read off.
-pub fn sent(score: &[u8], store: Tokens) -> Tokens
-    requires { ⌜ Playable (now score) ⌝ }
-    ensures { λ r. ⌜ ((status : ℕ) → r ≡ flagsOf 256 (output (decode (now (score .entry))) status (setOf store))) ⌝ }
-{
-    let ports = words::word_at(score, 1);
-    to_ports(
-        store,
-        format::number(ports, 0, 8),
-        format::number(ports, 8, 8),
-    )
-}
-
-// The tokens of a store from the lowest to the highest port.
-fn to_ports(store: Tokens, lowest: usize, highest: usize) -> Tokens
-    requires { ⌜ lowest ≤ highest ⌝ }
-    requires { ⌜ highest < 256 ⌝ }
-    ensures { λ r. ⌜ ((i : ℕ) → getD r i false ≡ (leb lowest i && leb i highest && getD store i false)) ⌝ }
-    ensures { λ r. ⌜ length r ≡ 256 ⌝ }
-{
-    let mut out = [false; 256];
-    let mut t = lowest;
-    while t <= highest {
-        out[t] = store[t];
-        t += 1;
-    }
-    out
+    standing::answer_from(score, head, standing::standing_in(state), inputs)
 }

@@ -9,9 +9,9 @@ use native.Mathlib.Omega.{arith}
 use lib.Dec.{eqb}
 use lib.ListN.{length}
 use Rattle.words.specs.Word.{words}
-use Rattle.journal.specs.declared.Form.the-variants.{Bytes, Word}
-use Rattle.journal.specs.Form.{isInstant, mayFollow, firstAgainst, formOf}
-use Rattle.journal.specs.Instants.{upTo, instantsIn}
+use Rattle.form.specs.declared.Form.the-variants.{Bytes, Word}
+use Rattle.form.specs.Form.{isInstant, mayFollow, firstAgainst, formOf}
+use Rattle.parts.specs.Instants.{upTo, instantsIn}
 
 first-few : (journal : Bool) (T k last : ℕ) (ws : List ℕ) (i : ℕ) → firstAgainst journal T k last ws ≡ Word i → i < k + length ws
 unfolding firstAgainst

@@ -16,12 +16,12 @@ use lib.ListN.{length, getD}
 use Rattle.tcc.proofs.Sets.{Within, on-cons, on-append, on-map}
 use Rattle.words.specs.Word.{words, field, kind}
 use Rattle.format.specs.Format.{isWord}
-use Rattle.lent.specs.Bits.{bytesOf}
-use Rattle.lent.proofs.Bytes.{bytesOf-length}
+use Rattle.bits.specs.Bits.{bytesOf}
+use Rattle.bits.proofs.Bytes.{bytesOf-length}
 use Rattle.lent.proofs.Round.{words-bytes}
-use Rattle.journal.specs.declared.Form.the-variants.{Good}
-use Rattle.journal.specs.Form.{tokenOf, statusOf, isInstant, rises, mayFollow, firstAgainst, formOf}
-use Rattle.journal.specs.Instants.{upTo, instantsIn, tokensOf, inputsIn}
+use Rattle.form.specs.declared.Form.the-variants.{Good}
+use Rattle.form.specs.Form.{tokenOf, statusOf, isInstant, rises, mayFollow, firstAgainst, formOf}
+use Rattle.parts.specs.Instants.{upTo, instantsIn, tokensOf, inputsIn}
 use Rattle.journal.specs.History.{instantWord, inputWord, outputWord, instantWords, Rising, one, more}
 use Rattle.journal.proofs.Rising.{rising-below}
 use Rattle.journal.proofs.Forms.{wordsOf, of-another, upTo-instant, upTo-another, WellFormed, good-whole, good-words, good-instants}

@@ -26,10 +26,10 @@ use Rattle.tcc.specs.Sets.{keep}
 use Rattle.tcc.proofs.Sets.{Within, true-is-false, and-both, on-cons, on-map, on-keep}
 use Rattle.words.specs.Word.{joined, words, field, kind}
 use Rattle.format.specs.Format.{clear, isWord}
-use Rattle.lent.specs.Bits.{bytesOf}
-use Rattle.journal.specs.declared.Form.the-variants.{Good, Bytes, Word}
-use Rattle.journal.specs.Form.{tokenOf, statusOf, isInstant, rises, mayFollow, firstAgainst, formOf}
-use Rattle.journal.specs.Instants.{upTo, instantsIn, tokensOf, inputsIn, inputLists}
+use Rattle.bits.specs.Bits.{bytesOf}
+use Rattle.form.specs.declared.Form.the-variants.{Good, Bytes, Word}
+use Rattle.form.specs.Form.{tokenOf, statusOf, isInstant, rises, mayFollow, firstAgainst, formOf}
+use Rattle.parts.specs.Instants.{upTo, instantsIn, tokensOf, inputsIn, inputLists}
 use Rattle.journal.specs.History.{instantWord, instantWords, Rising, none, one, more}
 
 abbrev pub wordsOf : ℕ → List ℕ → List ℕ

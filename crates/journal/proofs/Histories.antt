@@ -19,10 +19,10 @@ use Rattle.tcc.specs.Instant.{Answer, abortedAnswer, quietAnswer, liveIn, heldI
 use Rattle.tcc.proofs.Sets.{Within, true-is-false, on-cons}
 use Rattle.tcc.proofs.SameAnswer.{SameAnswer}
 use Rattle.words.specs.Word.{words}
-use Rattle.lent.specs.Bits.{bytesOf}
-use Rattle.journal.specs.declared.Form.the-variants.{Good}
-use Rattle.journal.specs.Form.{formOf}
-use Rattle.journal.specs.Instants.{instantsIn, inputsIn}
+use Rattle.bits.specs.Bits.{bytesOf}
+use Rattle.form.specs.declared.Form.the-variants.{Good}
+use Rattle.form.specs.Form.{formOf}
+use Rattle.parts.specs.Instants.{instantsIn, inputsIn}
 use Rattle.journal.specs.History.{instantWords, entry, history, Rising}
 use Rattle.journal.proofs.Rising.{output-rising, output-same}
 use Rattle.journal.proofs.Forms.{WellFormed}

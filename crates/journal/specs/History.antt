@@ -10,7 +10,7 @@ use Prim.Native.Nat.{ℕ, _+_, _*_, _^_, _<_}
 use lib.ListN.{length}
 use Rattle.tcc.specs.Score.{Score}
 use Rattle.tcc.specs.Instant.{Answer, State, output, answer, after}
-use Rattle.lent.specs.Bits.{bytesOf}
+use Rattle.bits.specs.Bits.{bytesOf}
 
 abbrev pub instantWord : ℕ → ℕ
 instantWord status = 12 * 2 ^ 28 + status

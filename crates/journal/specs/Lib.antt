@@ -1,3 +1,1 @@
-pub mod Form
-pub mod Instants
 pub mod History

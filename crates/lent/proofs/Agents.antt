@@ -20,11 +20,11 @@ use Rattle.tcc.specs.Sets.{below, any}
 use Rattle.tcc.proofs.Sets.{Within, on-keep, below-lt}
 use Rattle.store.specs.Flags.{setOf, flagsOf}
 use Rattle.words.specs.Word.{wordAt}
-use Rattle.lent.specs.Bits.{bitAt, Spread}
+use Rattle.bits.specs.Bits.{bitAt, Spread}
 use Rattle.lent.specs.States.{agentsIn}
-use Rattle.lent.proofs.Any.{any-keep, any-add, any-same}
-use Rattle.lent.proofs.Bits.{bits-from}
-use Rattle.lent.proofs.Filled.{Upto, upto-spread, upto-flags, set-kept}
+use Rattle.bits.proofs.Any.{any-keep, any-add, any-same}
+use Rattle.bits.proofs.Bits.{bits-from}
+use Rattle.bits.proofs.Filled.{Upto, upto-spread, upto-flags, set-kept}
 
 unfoldable pub awakeIn : List ℕ → ℕ → Bool
 awakeIn s i = bitAt (wordAt s (1 + i / 32)) (i % 32)

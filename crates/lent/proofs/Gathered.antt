@@ -16,12 +16,12 @@ use Rattle.tcc.specs.Sets.{below, has}
 use Rattle.store.specs.Flags.{setOf}
 use Rattle.store.proofs.Flags.{below-length}
 use Rattle.lent.specs.Lengths.{stateBytes, mapBytes}
-use Rattle.lent.specs.Bits.{bitsValue, bytesOf}
+use Rattle.bits.specs.Bits.{bitsValue, bytesOf}
 use Rattle.lent.specs.Maps.{mapOf}
 use Rattle.lent.specs.States.{agentWords}
-use Rattle.lent.proofs.Bits.{bitsValue-same}
-use Rattle.lent.proofs.Bytes.{Written, written-more, written-all, map-snoc, map-same}
-use Rattle.lent.proofs.Filled.{has-set}
+use Rattle.bits.proofs.Bits.{bitsValue-same}
+use Rattle.bits.proofs.Bytes.{Written, written-more, written-all, map-snoc, map-same}
+use Rattle.bits.proofs.Filled.{has-set}
 
 abbrev pub gathered : ℕ → List Bool → ℕ → ℕ
 gathered n flags k = bitsValue (λ j. getD flags (n * k + j) false) n

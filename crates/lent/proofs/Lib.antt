@@ -1,7 +1,4 @@
-pub mod Any
-pub mod Bits
-pub mod Filled
-pub mod Bytes
+pub mod Lengths
 pub mod Agents
 pub mod Tokens
 pub mod Faults

@@ -26,12 +26,12 @@ use Rattle.store.proofs.Flags.{below-length, below-at, map-at}
 use Rattle.words.specs.Word.{joined, words, wordAt}
 use Rattle.words.specs.Map.{inMap}
 use Rattle.lent.specs.Lengths.{stateBytes, mapBytes}
-use Rattle.lent.specs.Bits.{bitAt, bitsValue, bytesOf}
+use Rattle.bits.specs.Bits.{bitAt, bitsValue, bytesOf}
 use Rattle.lent.specs.Maps.{tokensIn, mapOf}
 use Rattle.lent.specs.States.{runningWord, abortedWord, agentsIn, stateFault, stateOf, agentWords, asBytes, LawfulState, SameState}
 use Rattle.lent.proofs.Agents.{awakeIn, agents-within}
-use Rattle.lent.proofs.Bits.{bitsValue-below, bitsValue-same, bitsValue-bit}
-use Rattle.lent.proofs.Bytes.{bytesOf-length, map-same}
+use Rattle.bits.proofs.Bits.{bitsValue-below, bitsValue-same, bitsValue-bit}
+use Rattle.bits.proofs.Bytes.{bytesOf-length, map-same}
 use Rattle.lent.proofs.Faults.{fault-running, fault-aborted}
 use Rattle.lent.proofs.Tokens.{tokens-within}
 

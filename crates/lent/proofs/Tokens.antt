@@ -14,9 +14,9 @@ use Rattle.tcc.specs.Sets.{below}
 use Rattle.tcc.proofs.Sets.{Within, on-keep, below-lt}
 use Rattle.store.specs.Flags.{setOf, flagsOf}
 use Rattle.words.specs.Map.{inMap}
-use Rattle.lent.specs.Bits.{bitAt, Spread}
+use Rattle.bits.specs.Bits.{bitAt, Spread}
 use Rattle.lent.specs.Maps.{tokensIn}
-use Rattle.lent.proofs.Filled.{Upto, upto-spread, upto-flags, set-kept}
+use Rattle.bits.proofs.Filled.{Upto, upto-spread, upto-flags, set-kept}
 
 pub token-byte : (m : List ℕ) (k j : ℕ) → j < 8 → bitAt (getD m k 0) j ≡ inMap m (8 * k + j)
 unfolding inMap

@@ -1,4 +1,3 @@
 pub mod Lengths
-pub mod Bits
 pub mod Maps
 pub mod States

@@ -6,7 +6,7 @@ use Prim.Native.Nat.{ℕ, _+_, _*_}
 use Rattle.tcc.specs.Sets.{below, keep, has}
 use Rattle.words.specs.Map.{inMap}
 use Rattle.lent.specs.Lengths.{mapBytes}
-use Rattle.lent.specs.Bits.{bitsValue}
+use Rattle.bits.specs.Bits.{bitsValue}
 
 unfoldable pub tokensIn : List ℕ → List ℕ
 tokensIn m = keep (inMap m) (below 256)

@@ -15,7 +15,7 @@ use lib.Dec.{eqb, leb}
 use Rattle.tcc.specs.Sets.{Same, below, keep, any, has}
 use Rattle.tcc.specs.Instant.{State, running, aborted}
 use Rattle.words.specs.Word.{wordAt}
-use Rattle.lent.specs.Bits.{bitAt, bitsValue, bytesOf}
+use Rattle.bits.specs.Bits.{bitAt, bitsValue, bytesOf}
 
 abbrev pub runningWord : ℕ
 runningWord = 0xF0000000

@@ -38,9 +38,9 @@ use denote.Struct.Declared.{Declared}
 use denote.Struct.Laws as LL
 use denote.Struct.Rest.{all-own, ownAt, rest, own-open, own-out, own-shut}
 use denote.Struct.Values.{Values}
-use Rattle.journal.specs.declared.Form.{Form}
-use Rattle.journal.proofs.Form as F
-use Rattle.journal.proofs.Form.Laws as F′
+use Rattle.form.specs.declared.Form.{Form}
+use Rattle.form.proofs.Form as F
+use Rattle.form.proofs.Form.Laws as F′
 use Rattle.reader.specs.Reading.{readerAt}
 use Rattle.reader.specs.declared.Reader.{Reader}
 use Rattle.reader.proofs.Reader as T

@@ -13,10 +13,10 @@ use borrow.Author.Tests.{eqb-true}
 use lib.Dec.{eqb}
 use lib.ListN.{length, getD}
 use Rattle.words.specs.Word.{words}
-use Rattle.journal.specs.declared.Form.{Form}
-use Rattle.journal.specs.declared.Form.the-variants.{Good, Bytes, Word}
-use Rattle.journal.specs.Form.{mayFollow, firstAgainst, formOf}
-use Rattle.journal.proofs.Against.{form-words}
+use Rattle.form.specs.declared.Form.{Form}
+use Rattle.form.specs.declared.Form.the-variants.{Good, Bytes, Word}
+use Rattle.form.specs.Form.{mayFollow, firstAgainst, formOf}
+use Rattle.form.proofs.Against.{form-words}
 use Rattle.reader.specs.Reading.{numberOf, wordOf}
 use Rattle.reader.specs.Through.{Against, Meets, twelve, thirteen}
 

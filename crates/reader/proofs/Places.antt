@@ -16,11 +16,11 @@ use lib.Dec.{eqb}
 use lib.ListN.{length, take, drop, length-drop}
 use lib.Seq.{length-take-le}
 use Rattle.words.specs.Word.{words}
-use Rattle.journal.specs.declared.Form.{Form}
-use Rattle.journal.specs.declared.Form.the-variants.{Good, Bytes, Word}
-use Rattle.journal.specs.Form.{formOf}
-use Rattle.journal.specs.Instants.{span, partFrom, partAt}
-use Rattle.journal.proofs.Parts.{span-fits}
+use Rattle.form.specs.declared.Form.{Form}
+use Rattle.form.specs.declared.Form.the-variants.{Good, Bytes, Word}
+use Rattle.form.specs.Form.{formOf}
+use Rattle.parts.specs.Instants.{span, partFrom, partAt}
+use Rattle.parts.proofs.Parts.{span-fits}
 use Rattle.reader.specs.Reading.{startBy, startOf, sizeAt, placeAfter}
 
 module _ (bytes : List ℕ) where

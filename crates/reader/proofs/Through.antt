@@ -11,11 +11,11 @@ use lib.ListN.{length, getD, take, drop, length-drop, drop-of-length-le, take-ap
 use lib.Seq.{drop-drop}
 use denote.Ref.{RefT, now}
 use Rattle.words.specs.Word.{words, wordAt}
-use Rattle.journal.specs.declared.Form.{Form}
-use Rattle.journal.specs.declared.Form.the-variants.{Good, Bytes, Word}
-use Rattle.journal.specs.Form.{isInstant, formOf}
-use Rattle.journal.specs.Instants.{instantsIn, span}
-use Rattle.journal.proofs.Parts.{instants-step, instants-end, part-starts, span-positive, starts-some, good-starts, good-four}
+use Rattle.form.specs.declared.Form.{Form}
+use Rattle.form.specs.declared.Form.the-variants.{Good, Bytes, Word}
+use Rattle.form.specs.Form.{isInstant, formOf}
+use Rattle.parts.specs.Instants.{instantsIn, span}
+use Rattle.parts.proofs.Parts.{instants-step, instants-end, part-starts, span-positive, starts-some, good-starts, good-four}
 use Rattle.reader.specs.Reading.{startOf, sizeAt, shownAt, placeAfter, readerAt, movedBy}
 use Rattle.reader.specs.Through.{showing, through, Along, GoesThrough, TurnedDown}
 use Rattle.reader.proofs.Numbers.{form-meets}

@@ -18,10 +18,10 @@ use lib.Dec.{eqb}
 use lib.ListN.{length, take, drop}
 use denote.Ref.{RefT, now}
 use Rattle.words.specs.Word.{words}
-use Rattle.journal.specs.declared.Form.{Form}
-use Rattle.journal.specs.declared.Form.the-variants.{Good, Bytes, Word}
-use Rattle.journal.specs.Form.{formOf}
-use Rattle.journal.specs.Instants.{span}
+use Rattle.form.specs.declared.Form.{Form}
+use Rattle.form.specs.declared.Form.the-variants.{Good, Bytes, Word}
+use Rattle.form.specs.Form.{formOf}
+use Rattle.parts.specs.Instants.{span}
 use Rattle.reader.specs.declared.Reader.{Reader}
 
 abbrev pub numberOf : Form → ℕ

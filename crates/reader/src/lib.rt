@@ -1,12 +1,12 @@
 // A reader of journals. Who sees an empty part asks for the journal's form, by `form` of a reader, and by `form_of` beside
 // `instant`: `Good` is past the last instant, `Bytes` turned down by 12, `Word(k)` turned down by 13 at word k. `form_of` is
-// `journal::form_of` for a journal, under a name of the reader's.
+// `form::form_of` for a journal, under a name of the reader's.
 ghost use mathlib.Core.Path.{_≡_};
 ghost use mathlib.Core.Bool.{true};
 ghost use lib.ListN.{take, drop};
-ghost use Rattle.journal.specs.Form.{formOf};
+ghost use Rattle.form.specs.Form.{formOf};
 ghost use Rattle.reader.specs.Reading.{startBy, sizeAt, placeAfter, placeOf, made, movedBy};
-use journal::Form;
+use form::Form;
 
 // A journal, the position of the instant that is shown next, and the journal's form.
 pub struct Reader<'a> {
@@ -61,7 +61,7 @@ pub fn instant(journal: &[u8], tokens: usize, k: usize) -> &[u8]
 pub fn form_of(journal: &[u8], tokens: usize) -> Form
     ensures { λ r. ⌜ r ≡ formOf true tokens (now (journal .entry)) ⌝ }
 {
-    journal::form_of(journal, tokens, true)
+    form::form_of(journal, tokens, true)
 }
 
 // Where a reader starts, by the form: at the first instant, or past the last where the journal is against its form.
@@ -79,7 +79,7 @@ fn start_of(journal: &[u8], form: Form) -> usize
 fn part_at(journal: &[u8], at: usize) -> &[u8]
     ensures { λ r. ⌜ now r ≡ take (sizeAt (now (journal .entry)) at) (drop at (now (journal .entry))) ⌝ }
 {
-    journal::part(journal, Form::Good, at)
+    parts::part(journal, Form::Good, at)
 }
 
 // The position so many instants further on.

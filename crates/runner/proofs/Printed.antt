@@ -10,8 +10,8 @@ use Rattle.tcc.specs.Instant.{State, output, answer, after, startState}
 use Rattle.tcc.proofs.Sets.{Within, on-cons, on-append, on-map}
 use Rattle.words.specs.Word.{joined, words}
 use Rattle.format.specs.Decode.{decode}
-use Rattle.lent.specs.Bits.{bytesOf}
-use Rattle.journal.specs.Instants.{inputLists}
+use Rattle.bits.specs.Bits.{bytesOf}
+use Rattle.parts.specs.Instants.{inputLists}
 use Rattle.journal.specs.History.{inputWord, outputWord, instantWords, history}
 use Rattle.journal.proofs.Histories.{history-words}
 use Rattle.demands.specs.Calls.{written}

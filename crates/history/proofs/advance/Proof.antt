@@ -12,7 +12,7 @@ use Rattle.tcc.specs.Instant.{answer}
 use Rattle.format.specs.Decode.{sizes, decode}
 use Rattle.format.proofs.Decode.{decode-tokens}
 use Rattle.store.specs.Flags.{setOf}
-use Rattle.instant.specs.Standing.{stateIn}
+use Rattle.standing.specs.Standing.{stateIn}
 use Rattle.history.specs.declared.Stop.the-variants.{Not}
 use Rattle.history.specs.Run.{stopBy, goesOn}
 use Rattle.history.proofs.Took.{outputs-known, status-small, took, goes-not, not-goes, not-stopped}

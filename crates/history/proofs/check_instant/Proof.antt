@@ -8,7 +8,7 @@ use Rattle.words.specs.Word.{words}
 use Rattle.format.specs.Decode.{sizes, decode}
 use Rattle.format.proofs.Decode.{sizes-few}
 use Rattle.store.specs.Flags.{setOf}
-use Rattle.instant.specs.Standing.{stateIn}
+use Rattle.standing.specs.Standing.{stateIn}
 use Rattle.history.proofs.Others.{formed-wide}
 use Rattle.history.proofs.Holds.{status-three, held}
 use Rattle.history.proofs.check_instant.Statement.{statement}

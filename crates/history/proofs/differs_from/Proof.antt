@@ -6,7 +6,7 @@ use borrow.Author.Needs.{needs}
 use native.Mathlib.Omega.{arith}
 use lib.ListN.{length}
 use Rattle.words.specs.Word.{words}
-use Rattle.journal.specs.Form.{statusOf}
+use Rattle.form.specs.Form.{statusOf}
 use Rattle.journal.specs.History.{instantWords}
 use Rattle.history.specs.Held.{Formed}
 use Rattle.history.proofs.Others.{differ-so}

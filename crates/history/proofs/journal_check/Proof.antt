@@ -13,7 +13,7 @@ use Rattle.scorefile.specs.Check.{verdict}
 use Rattle.verdicts.proofs.Verdicts.{accepted-only}
 use Rattle.scorefile.proofs.Lawful.{accepted-faultless, accepted-lawful}
 use Rattle.store.specs.Playable.{Playable}
-use Rattle.journal.specs.Form.{formOf}
+use Rattle.form.specs.Form.{formOf}
 use Rattle.history.specs.declared.Reply.{Reply}
 use Rattle.history.specs.JournalCheckCall.{Exit}
 use Rattle.history.proofs.CheckExits.{turned, lengths, not-whole, against, read}

@@ -12,7 +12,7 @@ use Rattle.verdicts.proofs.Verdicts.{accepted-only}
 use Rattle.scorefile.proofs.Lawful.{accepted-faultless, accepted-lawful}
 use Rattle.store.specs.Playable.{Playable}
 use Rattle.lent.specs.States.{stateFault}
-use Rattle.journal.specs.Form.{formOf}
+use Rattle.form.specs.Form.{formOf}
 use Rattle.history.specs.RunCall.{Lent, lent, lengthFault}
 use Rattle.history.proofs.RunExits.{turned, lengths, state, bytes, word, runs, right-lengths}
 use Rattle.history.proofs.run.Statement.{statement}

@@ -4,9 +4,9 @@ use lib.ListN.{length}
 use Rattle.format.specs.Decode.{sizes}
 use Rattle.lent.specs.States.{stateOf, LawfulState}
 use Rattle.lent.proofs.Round.{faultless-lawful}
-use Rattle.instant.specs.Standing.{stateIn}
-use Rattle.instant.proofs.Standings.{standing-state}
-use Rattle.journal.specs.Instants.{inputLists}
+use Rattle.standing.specs.Standing.{stateIn}
+use Rattle.standing.proofs.Standings.{standing-state}
+use Rattle.parts.specs.Instants.{inputLists}
 use Rattle.history.specs.Run.{runFrom}
 use Rattle.history.specs.RunCall.{ending}
 use Rattle.history.specs.Advance.{RanTo}

@@ -14,9 +14,9 @@ use Rattle.words.specs.Word.{words}
 use Rattle.store.specs.Flags.{setOf}
 use Rattle.lent.specs.States.{stateOf, asBytes, LawfulState, SameState}
 use Rattle.lent.proofs.Round.{state-round}
-use Rattle.instant.specs.Standing.{stateIn}
-use Rattle.instant.proofs.Written.{flags-known, after-lawful}
-use Rattle.journal.specs.Instants.{inputsIn, inputLists}
+use Rattle.standing.specs.Standing.{stateIn}
+use Rattle.standing.proofs.Inside.{flags-known, after-lawful}
+use Rattle.parts.specs.Instants.{inputsIn, inputLists}
 use Rattle.journal.proofs.Rising.{rising-set, rising-below}
 use Rattle.history.specs.Run.{goesOn, runFrom}
 use Rattle.history.specs.Advance.{RanTo}

@@ -4,7 +4,7 @@ use borrow.Author.Needs.{needs}
 use Rattle.format.specs.Format.{sizesOf}
 use Rattle.format.specs.Decode.{sizes}
 use Rattle.lent.specs.States.{asBytes, LawfulState}
-use Rattle.instant.specs.Standing.{stateIn}
+use Rattle.standing.specs.Standing.{stateIn}
 use Rattle.history.proofs.Starts.{start-lawful, start-bytes}
 use Rattle.history.proofs.write_start.Statement.{statement}
 use Rattle.history.proofs.write_start.Tie as tie

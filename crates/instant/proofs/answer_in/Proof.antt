@@ -5,8 +5,8 @@ use Rattle.tcc.specs.Instant.{answer}
 use Rattle.format.specs.Decode.{decode}
 use Rattle.store.specs.Flags.{setOf}
 use Rattle.engine.specs.Outcome.{outcomeOf}
-use Rattle.instant.specs.Standing.{stateIn}
-use Rattle.instant.proofs.Standings.{standing-state}
+use Rattle.standing.specs.Standing.{stateIn}
+use Rattle.standing.proofs.Standings.{standing-state}
 use Rattle.instant.proofs.answer_in.Statement.{statement}
 use Rattle.instant.proofs.answer_in.Tie as tie
 

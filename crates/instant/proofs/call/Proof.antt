@@ -21,16 +21,17 @@ use Rattle.scorefile.proofs.Lawful.{accepted-faultless, accepted-lawful}
 use Rattle.store.specs.Flags.{setOf, flagsOf}
 use Rattle.store.specs.Playable.{Playable}
 use Rattle.engine.specs.Outcome.{outcomeOf}
-use Rattle.lent.specs.Bits.{bytesOf}
+use Rattle.bits.specs.Bits.{bytesOf}
 use Rattle.lent.specs.Maps.{tokensIn, mapOf}
 use Rattle.lent.specs.States.{runningWord, abortedWord, agentWords, stateFault, stateOf, LawfulState}
-use Rattle.lent.proofs.Filled.{none-from, from-none}
+use Rattle.bits.proofs.Filled.{none-from, from-none}
 use Rattle.lent.proofs.Round.{faultless-lawful}
 use Rattle.lent.proofs.Tokens.{tokens-set}
 use Rattle.instant.specs.declared.Reply.the-variants.{Settled}
 use Rattle.instant.specs.InstantCall.{Lent, lent, Exit, lengthFault, tokenFault}
 use Rattle.instant.proofs.Exits.{turned, lengths, state, input, settled, Lengths-are, right-lengths}
-use Rattle.instant.proofs.Written.{Inside, answer-inside, next-lawful, state-written, store-written, output-written, flags-known}
+use Rattle.standing.proofs.Inside.{Inside, answer-inside, next-lawful, flags-known}
+use Rattle.instant.proofs.Written.{state-written, store-written, output-written}
 use Rattle.instant.proofs.call.Statement.{statement}
 use Rattle.instant.proofs.call.Tie as tie
 

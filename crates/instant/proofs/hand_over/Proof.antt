@@ -10,12 +10,12 @@ use Rattle.tcc.specs.Instant.{output}
 use Rattle.format.specs.Decode.{decode}
 use Rattle.format.proofs.Decode.{decode-tokens}
 use Rattle.store.specs.Flags.{setOf, flagsOf}
-use Rattle.lent.specs.Bits.{bytesOf}
+use Rattle.bits.specs.Bits.{bytesOf}
 use Rattle.lent.specs.Maps.{mapOf}
 use Rattle.lent.specs.States.{agentWords}
 use Rattle.lent.proofs.Round.{mapOf-same}
-use Rattle.instant.proofs.Ports.{output-below}
-use Rattle.instant.proofs.Written.{flags-back, flags-known}
+use Rattle.standing.proofs.Ports.{output-below}
+use Rattle.standing.proofs.Inside.{flags-back, flags-known}
 use Rattle.instant.proofs.hand_over.Statement.{statement}
 use Rattle.instant.proofs.hand_over.Tie as tie
 

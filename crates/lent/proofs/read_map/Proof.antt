@@ -1,5 +1,5 @@
 -- `lent::read_map`: the flags below 8 k are set.
-use Rattle.lent.specs.Bits.{Spread}
+use Rattle.bits.specs.Bits.{Spread}
 use mathlib.Core.List.{List}
 use mathlib.Core.Bool.{Bool}
 use Rattle.lent.proofs.Tokens.{tokens-flags, tokens-more}
@@ -9,7 +9,7 @@ use Prim.Native.Nat.{_*_, _-_, _≤_, _+_}
 use borrow.Author.Needs.{needs}
 use native.Mathlib.Omega.{arith}
 use lib.ListN.{length}
-use Rattle.lent.proofs.Filled.{Upto, upto-none, spread-zero}
+use Rattle.bits.proofs.Filled.{Upto, upto-none, spread-zero}
 use Rattle.words.specs.Map.{inMap}
 use Rattle.lent.proofs.read_map.Statement.{statement}
 use Rattle.lent.proofs.read_map.Tie as tie

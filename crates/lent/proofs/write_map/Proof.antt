@@ -1,6 +1,6 @@
 -- `lent::write_map`: the bytes below k are written.
 use mathlib.Core.Bool.{false}
-use Rattle.lent.proofs.Bits.{bitsValue-below}
+use Rattle.bits.proofs.Bits.{bitsValue-below}
 use mathlib.Core.Path.{_≡_, ap, _∙_}
 use Prim.Native.Nat.{_-_, _≤_, _+_, _*_}
 use borrow.Author.Needs.{needs}

@@ -23,7 +23,7 @@ use denote.Triple.Spec.{Meets, tripleOf}
 use denote.Triple.Table.{entered}
 use denote.Triple.Walked.{says, Stays, stay-none, walkOf, goes-none, Walks, ends-at, walked, walk-meets}
 use denote.Exit.{yes}
-use Rattle.journal.proofs.Form as F
+use Rattle.form.proofs.Form as F
 use Rattle.reader.specs.declared.Reader.{Reader}
 use Rattle.reader.proofs.Held.{tagged, machine, FormIs, form-typed, form-owned, Row, row-vals, row-tells, typed, form-is}
 use Rattle.reader.proofs.form.Key.{name as #form}

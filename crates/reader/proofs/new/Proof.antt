@@ -35,10 +35,10 @@ use denote.Triple.Table.{entered, cited}
 use denote.Triple.Walked.{says, Stays, stay-none, stay-none-slice, walkOf, goes-none, goes-none-slice, Walks, ends-at, walked, walk-meets}
 use denote.Exit.{yes}
 use denote.Triple.Clauses.{ensured, lasts}
-use Rattle.journal.specs.declared.Form.{Form}
-use Rattle.journal.specs.Form.{formOf}
-use Rattle.journal.proofs.Form as F
-use Rattle.journal.proofs.Form.Laws as F′
+use Rattle.form.specs.declared.Form.{Form}
+use Rattle.form.specs.Form.{formOf}
+use Rattle.form.proofs.Form as F
+use Rattle.form.proofs.Form.Laws as F′
 use Rattle.reader.specs.Reading.{startBy, readerAt}
 use Rattle.reader.proofs.Places.{start-of as start-at}
 use Rattle.reader.proofs.Held.{sliceOf, tagged, machine, FormIs, form-tells, told, form-lawful, form-owned, typed, is-made, Lent, twice, holds}

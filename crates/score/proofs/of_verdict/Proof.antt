@@ -4,8 +4,7 @@ use Prim.Native.Nat.{ℕ, zero, suc, _^_, _<_}
 use native.Mathlib.Omega.{arith}
 use Rattle.verdicts.specs.Verdicts.{numberOf, valueOf}
 use Rattle.verdicts.specs.declared.Verdict.the-variants.{Accepted}
-use Rattle.verdicts.proofs.Verdicts.{accepted-only}
-use Rattle.verdicts.proofs.Verdicts.{number-few}
+use Rattle.verdicts.proofs.Verdicts.{accepted-only, number-few}
 use Rattle.score.specs.Answer.{refused, reply, packed, Fits}
 use borrow.Author.Needs.{needs}
 use Rattle.score.proofs.of_verdict.Statement.{statement}

@@ -14,10 +14,9 @@ use Rattle.verdicts.specs.Verdicts.{numberOf, orElse}
 use Rattle.faults.specs.Faults.{lengthVerdict, headVerdict, countVerdict, firstFault}
 use Rattle.circles.specs.Circles.{circleFrom}
 use Rattle.scorefile.specs.Check.{verdict}
-use Rattle.verdicts.proofs.Verdicts.{accepted-only}
+use Rattle.verdicts.proofs.Verdicts.{accepted-only, orElse-accepted, orElse-refused}
 use Rattle.faults.proofs.Accepted.{length-accepted, count-accepted}
 use Rattle.format.proofs.Decode.{sizes-few}
-use Rattle.verdicts.proofs.Verdicts.{orElse-accepted, orElse-refused}
 use Rattle.scorefile.proofs.check.Statement.{statement}
 use Rattle.scorefile.proofs.check.Tie as tie
 

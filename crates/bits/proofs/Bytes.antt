@@ -1,0 +1,55 @@
+-- Laws of words as bytes.
+--     bytesOf-length     four bytes for every word
+--     bytesOf-append     one list of words after the other
+--     map-snoc, map-same laws of images
+--     Written            a buffer with words written from its front
+--     written-more       one word more
+--     written-all        words as many as the buffer holds
+use mathlib.Core.Path.{_≡_, refl, sym, ap, ap₂, _∙_}
+use mathlib.Core.List.{List, [], _∷_, _++_, map, append-nil}
+use Prim.Native.Nat.{ℕ, _+_, _*_, _≤_}
+use native.Mathlib.Omega.{arith}
+use lib.ListN.{length, take, drop, length-append, drop-of-length-le}
+use lib.Seq.{take-at, drop-append-add, drop-drop}
+use Rattle.bits.specs.Bits.{bytesOf}
+
+pub bytesOf-length : (ws : List ℕ) → length (bytesOf ws) ≡ 4 * length ws
+unfolding bytesOf
+bytesOf-length [] = refl
+bytesOf-length (w ∷ ws) = let e : length (bytesOf ws) ≡ 4 * length ws = bytesOf-length ws in omega arith
+
+pub bytesOf-append : (ws vs : List ℕ) → bytesOf (ws ++ vs) ≡ bytesOf ws ++ bytesOf vs
+unfolding bytesOf
+bytesOf-append [] vs = refl
+bytesOf-append (w ∷ ws) vs = let e : bytesOf (ws ++ vs) ≡ bytesOf ws ++ bytesOf vs = bytesOf-append ws vs in cc
+
+pub map-snoc : {A B : Type 0} (f : A → B) (l : List A) (x : A) → map f (l ++ (x ∷ [])) ≡ map f l ++ (f x ∷ [])
+map-snoc f [] x = refl
+map-snoc f (y ∷ l) x = ap (λ k. f y ∷ k) (map-snoc f l x)
+
+pub map-same : {A B : Type 0} (f g : A → B) (l : List A) → ((x : A) → f x ≡ g x) → map f l ≡ map g l
+map-same f g [] h = refl
+map-same f g (x ∷ l) h = ap₂ _∷_ (h x) (map-same f g l h)
+
+abbrev pub Written : List ℕ → List ℕ → List ℕ
+Written ws s = bytesOf ws ++ drop (4 * length ws) s
+
+pub written-more : (ws : List ℕ) (w n : ℕ) (s : List ℕ) → length ws ≡ n → take (4 * n) (Written ws s) ++ bytesOf (w ∷ []) ++ drop (4 * n + 4) (Written ws s) ≡ Written (ws ++ (w ∷ [])) s
+written-more ws w n s e =
+    ap₂ (λ a b. a ++ bytesOf (w ∷ []) ++ b) (take-at (bytesOf ws) (drop (4 * length ws) s) (4 * n) front) later
+    ∙ ap₂ _++_ (sym (bytesOf-append ws (w ∷ []))) (ap (λ k. drop k s) more)
+  where
+    front : length (bytesOf ws) ≡ 4 * n
+    front = bytesOf-length ws ∙ ap (λ k. 4 * k) e
+
+    later : drop (4 * n + 4) (Written ws s) ≡ drop (4 * length ws + 4) s
+    later =
+        ap (λ k. drop (k + 4) (Written ws s)) (sym front)
+        ∙ drop-append-add (bytesOf ws) (drop (4 * length ws) s) 4
+        ∙ drop-drop 4 (4 * length ws) s
+
+    more : 4 * length ws + 4 ≡ 4 * length (ws ++ (w ∷ []))
+    more = omega (arith, length-append ws (w ∷ []))
+
+pub written-all : (ws s : List ℕ) → length s ≤ 4 * length ws → Written ws s ≡ bytesOf ws
+written-all ws s h = ap (λ k. bytesOf ws ++ k) (drop-of-length-le s h) ∙ append-nil (bytesOf ws)

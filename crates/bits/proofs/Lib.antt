@@ -1,0 +1,4 @@
+pub mod Any
+pub mod Bits
+pub mod Filled
+pub mod Bytes

@@ -1,0 +1,3 @@
+pub mod Standings
+pub mod Ports
+pub mod Inside

@@ -1,0 +1,47 @@
+-- `answer_from`: by whether the score is running.
+use mathlib.Core.Path.{_≡_, sym, ap, ap₂, _∙_}
+use mathlib.Core.Bool.{Bool, true, false, cond}
+use mathlib.Core.List.{List}
+use Prim.Native.Nat.{ℕ}
+use borrow.Author.Needs.{needs}
+use lib.ListN.{replicate}
+use Rattle.tcc.specs.Score.{Score}
+use Rattle.tcc.specs.Instant.{running, aborted, abortedAnswer, instant, answer}
+use Rattle.format.specs.Decode.{decode}
+use Rattle.store.specs.Flags.{setOf}
+use Rattle.engine.specs.declared.Outcome.{Outcome}
+use Rattle.engine.specs.Outcome.{outcomeOf}
+use Rattle.engine.proofs.Outcomes.{flags-none}
+use Rattle.standing.specs.declared.Standing.{Standing}
+use Rattle.standing.specs.Standing.{stateIn}
+use Rattle.standing.proofs.answer_from.Statement.{statement}
+use Rattle.standing.proofs.answer_from.Tie as tie
+
+none-outcome : _≡_ {A = Outcome} (record { status = 2; count = 0; store = replicate 256 false; awake = replicate 1024 false }) (outcomeOf abortedAnswer)
+unfolding outcomeOf
+none-outcome = ap₂ (λ (s w : List Bool). record { status = 2; count = 0; store = s; awake = w }) (flags-none 256) (flags-none 1024)
+
+running-answer : (sc : Score) (s : Standing) (inputs : List ℕ) → s .running ≡ true → answer sc (stateIn s) inputs ≡ instant sc (setOf (s .awake)) inputs
+unfolding stateIn answer
+running-answer sc s inputs e = ap (λ b. answer sc (cond b (running (setOf (s .awake))) aborted) inputs) e
+
+aborted-answer : (sc : Score) (s : Standing) (inputs : List ℕ) → s .running ≡ false → answer sc (stateIn s) inputs ≡ abortedAnswer
+unfolding stateIn answer
+aborted-answer sc s inputs e = ap (λ b. answer sc (cond b (running (setOf (s .awake))) aborted) inputs) e
+
+play-requires : tie.Need-play-requires
+play-requires c κs = search needs
+
+returns : tie.Need-returns
+returns c =
+    let b = c .before .before .before .before in
+    c .play .ensures ∙ sym (ap outcomeOf (running-answer (decode (b .args .score .now)) (b .args .standing) (setOf (b .args .inputs)) (c .before .if1 .taken)))
+
+returns-2 : tie.Need-returns-2
+returns-2 c =
+    let b = c .before .before .before in
+    none-outcome ∙ sym (ap outcomeOf (aborted-answer (decode (b .args .score .now)) (b .args .standing) (setOf (b .args .inputs)) (c .if1 .left)))
+
+pub answer-from-spec : {M : Type 1} → statement M
+answer-from-spec =
+    tie.close (tie.spec play-requires returns returns-2)

@@ -1,0 +1,65 @@
+-- `write_standing`: by whether the score is running.
+use mathlib.Core.Path.{_≡_, refl, sym, ap, subst, _∙_}
+use mathlib.Core.Bool.{Bool, true, false, cond}
+use mathlib.Core.List.{List, [], _∷_}
+use Prim.Native.Nat.{ℕ, _<_, _≤_}
+use borrow.Author.Needs.{needs}
+use native.Mathlib.Omega.{arith}
+use lib.ListN.{getD, replicate}
+use Rattle.tcc.specs.Instant.{State, running, aborted}
+use Rattle.store.specs.Flags.{setOf}
+use Rattle.store.proofs.Flags.{flag-member, setOf-none}
+use Rattle.engine.proofs.Outcomes.{flags-none}
+use Rattle.bits.specs.Bits.{bytesOf}
+use Rattle.lent.specs.States.{runningWord, abortedWord, agentWords, asBytes, LawfulState}
+use Rattle.standing.specs.declared.Standing.{Standing}
+use Rattle.standing.specs.Standing.{stateIn}
+use Rattle.standing.proofs.Inside.{flags-known}
+use Rattle.standing.proofs.write_standing.Statement.{statement}
+use Rattle.standing.proofs.write_standing.Tie as tie
+
+running-bytes : (s : Standing) → s .running ≡ true → bytesOf (runningWord ∷ agentWords (setOf (s .awake))) ≡ asBytes (stateIn s)
+unfolding stateIn asBytes
+running-bytes s e = sym (ap (λ b. asBytes (cond b (running (setOf (s .awake))) aborted)) e)
+
+aborted-bytes : (s : Standing) → s .running ≡ false → bytesOf (abortedWord ∷ agentWords (setOf (replicate 1024 false))) ≡ asBytes (stateIn s)
+unfolding stateIn asBytes
+aborted-bytes s e = ap (λ l. bytesOf (abortedWord ∷ agentWords l)) (setOf-none 1024) ∙ sym (ap (λ b. asBytes (cond b (running (setOf (s .awake))) aborted)) e)
+
+awake-known : (n : ℕ) (s : Standing) → s .running ≡ true → LawfulState n (stateIn s) → (i : ℕ) → n ≤ i → getD (s .awake) i false ≡ false
+unfolding stateIn LawfulState
+awake-known n s e l i h = go (getD (s .awake) i false) refl
+  where
+    known : LawfulState n (running (setOf (s .awake)))
+    known = subst (λ b. LawfulState n (cond b (running (setOf (s .awake))) aborted)) e l
+
+    go : (b : Bool) → getD (s .awake) i false ≡ b → getD (s .awake) i false ≡ false
+    go true f = absurd (let k : i < n = known i (flag-member (s .awake) f) in omega arith)
+    go false f = f
+
+none-known : (i : ℕ) → getD (replicate 1024 false) i false ≡ false
+none-known i = ap (λ l. getD l i false) (flags-none 1024) ∙ flags-known 1024 0 [] (λ j m. elim m [ ]) i (omega arith)
+
+write-state-requires : tie.Need-write-state-requires
+write-state-requires c κs =
+    let b = c .before .before .before .before in
+    (b .pre .0, awake-known (b .args .agents) (b .args .standing) (c .before .if1 .taken) (b .pre .1))
+
+same-length : tie.Need-same-length
+same-length c = search needs
+
+returns : tie.Need-returns
+returns c = c .before .before .write-state .ensures ∙ running-bytes (c .before .before .before .before .before .before .before .args .standing) (c .before .before .before .before .if1 .taken)
+
+write-state-requires-2 : tie.Need-write-state-requires-2
+write-state-requires-2 c κs = (c .before .before .before .before .pre .0, λ i h. none-known i)
+
+same-length-2 : tie.Need-same-length-2
+same-length-2 c = search needs
+
+returns-2 : tie.Need-returns-2
+returns-2 c = c .before .before .write-state2 .ensures ∙ aborted-bytes (c .before .before .before .before .before .before .before .args .standing) (c .before .before .before .before .if1 .left)
+
+pub write-standing-spec : {M : Type 1} → statement M
+write-standing-spec =
+    tie.close (tie.spec write-state-requires same-length returns write-state-requires-2 same-length-2 returns-2)

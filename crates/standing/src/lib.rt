@@ -1,0 +1,106 @@
+ghost use mathlib.Core.Path.{_≡_};
+ghost use mathlib.Core.Bool.{false, _&&_, not};
+ghost use Prim.Native.Nat.{ℕ, _<_, _≤_};
+ghost use lib.Dec.{eqb, leb};
+ghost use lib.ListN.{length, getD};
+ghost use Rattle.tcc.specs.Instant.{output, answer};
+ghost use Rattle.format.specs.Decode.{sizes, decode};
+ghost use Rattle.store.specs.Flags.{setOf, flagsOf};
+ghost use Rattle.store.specs.Playable.{Playable};
+ghost use Rattle.engine.specs.Outcome.{outcomeOf};
+ghost use Rattle.lent.specs.Lengths.{stateBytes};
+ghost use Rattle.lent.specs.States.{asBytes, LawfulState};
+ghost use Rattle.standing.specs.Standing.{stateIn, standingIn};
+use engine::Outcome;
+use format::Sizes;
+use store::Agents;
+use store::Tokens;
+
+// Where a score stands between two instants.
+pub struct Standing {
+    pub running: bool,
+    pub awake: Agents,
+}
+
+// Where a score stands in a state.
+pub fn standing_in(state: &[u8]) -> Standing
+    requires { ⌜ length (now state) ≡ stateBytes ⌝ }
+    ensures { λ r. ⌜ r ≡ standingIn (now (state .entry)) ⌝ }
+{
+    let running = words::word_at(state, 0) != lent::ABORTED;
+    let awake = lent::read_agents(state);
+    Standing { running, awake }
+}
+
+// The answer from where a score stands: an aborted one stays aborted.
+pub fn answer_from(score: &[u8], head: Sizes, standing: Standing, inputs: Tokens) -> Outcome
+    requires { ⌜ head ≡ sizes (now score) ⌝ }
+    requires { ⌜ Playable (now score) ⌝ }
+    ensures { λ r. ⌜ r ≡ outcomeOf (answer (decode (now (score .entry))) (stateIn standing) (setOf inputs)) ⌝ }
+{
+    let awake = standing.awake;
+    if standing.running {
+        engine::play(score, head, awake, inputs)
+    } else {
+        Outcome {
+            status: 2,
+            count: 0,
+            store: [false; 256],
+            awake: [false; 1024],
+        }
+    }
+}
+
+// Where a score stands after an outcome.
+pub fn standing_after(outcome: Outcome) -> Standing
+    ensures { λ r. ⌜ (r .running ≡ not (eqb (outcome .status) 2)) × (r .awake ≡ outcome .awake) ⌝ }
+{
+    let awake = outcome.awake;
+    Standing {
+        running: outcome.status != 2,
+        awake,
+    }
+}
+
+// Writes the state that a score stands in.
+pub fn write_standing(state: &mut [u8], agents: usize, standing: Standing)
+    requires { ⌜ length (now state) ≡ stateBytes ⌝ }
+    requires { ⌜ LawfulState agents (stateIn standing) ⌝ }
+    ensures { λ _. ⌜ now (state .exit) ≡ asBytes (stateIn standing) ⌝ }
+{
+    let awake = standing.awake;
+    if standing.running {
+        lent::write_state(state, lent::RUNNING, agents, awake);
+        return;
+    }
+    lent::write_state(state, lent::ABORTED, 0, [false; 1024]);
+}
+
+// What goes to the ports of a store: the one place where outputs are read off.
+pub fn sent(score: &[u8], store: Tokens) -> Tokens
+    requires { ⌜ Playable (now score) ⌝ }
+    ensures { λ r. ⌜ ((status : ℕ) → r ≡ flagsOf 256 (output (decode (now (score .entry))) status (setOf store))) ⌝ }
+{
+    let ports = words::word_at(score, 1);
+    to_ports(
+        store,
+        format::number(ports, 0, 8),
+        format::number(ports, 8, 8),
+    )
+}
+
+// The tokens of a store from the lowest to the highest port.
+fn to_ports(store: Tokens, lowest: usize, highest: usize) -> Tokens
+    requires { ⌜ lowest ≤ highest ⌝ }
+    requires { ⌜ highest < 256 ⌝ }
+    ensures { λ r. ⌜ ((i : ℕ) → getD r i false ≡ (leb lowest i && leb i highest && getD store i false)) ⌝ }
+    ensures { λ r. ⌜ length r ≡ 256 ⌝ }
+{
+    let mut out = [false; 256];
+    let mut t = lowest;
+    while t <= highest {
+        out[t] = store[t];
+        t += 1;
+    }
+    out
+}
