@@ -28,8 +28,7 @@ use Rattle.verdicts.specs.declared.Verdict.the-variants.{Accepted, Length, Coun
 use Rattle.format.specs.Format.{isWord, agentIn, decodeAgent}
 use Rattle.format.specs.Decode.{sizes, decode}
 use Rattle.verdicts.specs.Verdicts.{numberOf}
-use Rattle.wordfaults.specs.WordFaults.{atWord, portsVerdict, rootVerdict, ruleVerdict}
-use Rattle.agentfaults.specs.AgentFaults.{agentVerdict}
+use Rattle.wordfaults.specs.WordFaults.{atWord, portsVerdict, rootVerdict, ruleVerdict, agentVerdict}
 use Rattle.faults.specs.Faults.{lengthVerdict, countVerdict, wordVerdict, firstFault, Faultless}
 use Rattle.format.proofs.Decode.{decode-agent, decode-root, decode-agents}
 use Rattle.verdicts.proofs.Verdicts.{refused, both-accepted}

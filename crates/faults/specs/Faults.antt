@@ -16,8 +16,7 @@ use Rattle.format.specs.Decode.{sizes}
 use Rattle.verdicts.specs.declared.Verdict.{Verdict}
 use Rattle.verdicts.specs.declared.Verdict.the-variants.{Accepted, Length, Head, Count}
 use Rattle.verdicts.specs.Verdicts.{orElse}
-use Rattle.wordfaults.specs.WordFaults.{portsVerdict, rootVerdict, ruleVerdict}
-use Rattle.agentfaults.specs.AgentFaults.{agentVerdict}
+use Rattle.wordfaults.specs.WordFaults.{portsVerdict, rootVerdict, ruleVerdict, agentVerdict}
 
 abbrev pub lengthVerdict : ℕ → Verdict
 lengthVerdict n = cond (eqb n 0 || not (eqb (n % 4) 0) || ltb 5384 n) Length Accepted

@@ -82,7 +82,7 @@ fn word_verdict(sizes: Sizes, k: usize, w: u32) -> Verdict
         return wordfaults::ports_verdict(sizes, k, w);
     }
     if k < 2 + sizes.agents {
-        return agentfaults::agent_verdict(sizes, k - 2, format::decode_agent(w));
+        return wordfaults::agent_verdict(sizes, k - 2, format::decode_agent(w));
     }
     if k < 2 + sizes.agents + sizes.procedures {
         return wordfaults::root_verdict(sizes, k, w);

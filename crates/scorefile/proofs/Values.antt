@@ -21,8 +21,7 @@ use Rattle.verdicts.specs.declared.Verdict.the-variants.{Accepted, Length, Head
 use Rattle.format.specs.Format.{isWord, decodeAgent}
 use Rattle.format.specs.Decode.{sizes, decode}
 use Rattle.verdicts.specs.Verdicts.{numberOf, valueOf, orElse}
-use Rattle.wordfaults.specs.WordFaults.{atWord}
-use Rattle.agentfaults.specs.AgentFaults.{agentVerdict}
+use Rattle.wordfaults.specs.WordFaults.{atWord, agentVerdict}
 use Rattle.faults.specs.Faults.{wordVerdict, firstFault, lengthVerdict, headVerdict, countVerdict}
 use Rattle.circles.specs.Circles.{circleFrom}
 use Rattle.scorefile.specs.Check.{verdict}

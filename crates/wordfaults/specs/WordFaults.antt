@@ -1,13 +1,18 @@
--- The table's rows 4, 5 and 6 at one word: of the ports, a procedure, a rule.
+-- The table's rows 4, 5 and 6 at one word: of the ports, an agent, a procedure, a rule.
 --     atWord               at one word: 4 before 5 before 6
---     portsVerdict, rootVerdict, ruleVerdict    word k, as the ports, a procedure or a rule
-use mathlib.Core.Bool.{Bool, false, cond}
+--     portsVerdict         word k, as the ports
+--     agentVerdict         agent i: its form, its tokens, its bodies or halves, its procedure
+--     rootVerdict, ruleVerdict    word k, as a procedure or a rule
+use mathlib.Core.Bool.{Bool, true, false, cond, _||_}
 use mathlib.Core.List.{List, [], _∷_}
-use Prim.Native.Nat.{ℕ}
+use Prim.Native.Nat.{ℕ, _+_}
 use lib.Dec.{leb, ltb}
 use Rattle.tcc.specs.Sets.{any}
+use Rattle.tcc.specs.Score.{tokensOf, partsOf, proceduresOf}
 use Rattle.words.specs.Word.{field}
 use Rattle.format.specs.declared.Sizes.{Sizes}
+use Rattle.format.specs.declared.Decoded.{Decoded}
+use Rattle.format.specs.declared.Decoded.the-variants.{Whole, Malformed}
 use Rattle.format.specs.Format.{isWord}
 use Rattle.verdicts.specs.declared.Verdict.{Verdict}
 use Rattle.verdicts.specs.declared.Verdict.the-variants.{Accepted, Form, Token, Reference}
@@ -18,6 +23,11 @@ atWord h k formed tokens astray = cond formed (cond (any (λ t. leb (h .tokens) 
 
 abbrev pub portsVerdict : Sizes → ℕ → ℕ → Verdict
 portsVerdict h k w = atWord h k (isWord 11 16 w) (field w 0 8 ∷ field w 8 8 ∷ []) (ltb (field w 8 8) (field w 0 8))
+
+-- agent i is word 2 + i
+abbrev pub agentVerdict : Sizes → ℕ → Decoded → Verdict
+agentVerdict h i Malformed = Form (2 + i)
+agentVerdict h i (Whole a) = atWord h (2 + i) true (tokensOf a) (any (λ b. leb i b) (partsOf a) || any (λ p. leb (h .procedures) p) (proceduresOf a))
 
 abbrev pub rootVerdict : Sizes → ℕ → ℕ → Verdict
 rootVerdict h k w = atWord h k (isWord 3 10 w) [] (leb (h .agents) (field w 0 10))

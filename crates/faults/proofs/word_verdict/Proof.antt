@@ -2,7 +2,7 @@
 use mathlib.Core.Path.{sym, ap, _∙_}
 use Prim.Native.Nat.{_-_}
 use borrow.Author.Tests.{lt-ltb, le-ltb}
-use Rattle.agentfaults.specs.AgentFaults.{agentVerdict}
+use Rattle.wordfaults.specs.WordFaults.{agentVerdict}
 use Rattle.faults.specs.Faults.{wordVerdict}
 use borrow.Author.Needs.{needs}
 use Rattle.faults.proofs.word_verdict.Statement.{statement}

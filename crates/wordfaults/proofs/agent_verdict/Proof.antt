@@ -1,4 +1,4 @@
--- `agentfaults::agent_verdict`: by the agent.
+-- `wordfaults::agent_verdict`: by the agent.
 use mathlib.Core.Path.{_≡_, sym, ap, _∙_}
 use Prim.Native.Nat.{ℕ}
 use native.Mathlib.Omega.{arith}
@@ -8,10 +8,10 @@ use Rattle.format.specs.declared.Sizes.{Sizes}
 use Rattle.format.specs.declared.Decoded.{Decoded}
 use Rattle.format.specs.declared.Decoded.the-variants.{Whole}
 use Rattle.verdicts.specs.declared.Verdict.{Verdict}
-use Rattle.agentfaults.specs.AgentFaults.{agentVerdict}
+use Rattle.wordfaults.specs.WordFaults.{agentVerdict}
 use borrow.Author.Needs.{needs}
-use Rattle.agentfaults.proofs.agent_verdict.Statement.{statement}
-use Rattle.agentfaults.proofs.agent_verdict.Tie as tie
+use Rattle.wordfaults.proofs.agent_verdict.Statement.{statement}
+use Rattle.wordfaults.proofs.agent_verdict.Tie as tie
 
 -- the verdict of a decoded word is that of its agent
 judged : (h : Sizes) (i : ℕ) {d : Decoded} {a b : Agent} {v : Verdict} → d ≡ Whole a → a ≡ b → agentVerdict h i (Whole b) ≡ v → v ≡ agentVerdict h i d

@@ -1,4 +1,4 @@
--- `agentfaults::guarded_verdict`: the token, then the body.
+-- `wordfaults::guarded_verdict`: the token, then the body.
 use mathlib.Core.Path.{_≡_}
 use Prim.Native.Nat.{ℕ, _+_, _<_, _≤_}
 use native.Mathlib.Omega.{arith}
@@ -8,9 +8,9 @@ use Rattle.tcc.specs.declared.Agent.the-variants.{When}
 use Rattle.format.specs.declared.Sizes.{Sizes}
 use Rattle.format.specs.declared.Decoded.the-variants.{Whole}
 use Rattle.verdicts.specs.declared.Verdict.the-variants.{Accepted, Token, Reference}
-use Rattle.agentfaults.specs.AgentFaults.{agentVerdict}
-use Rattle.agentfaults.proofs.guarded_verdict.Statement.{statement}
-use Rattle.agentfaults.proofs.guarded_verdict.Tie as tie
+use Rattle.wordfaults.specs.WordFaults.{agentVerdict}
+use Rattle.wordfaults.proofs.guarded_verdict.Statement.{statement}
+use Rattle.wordfaults.proofs.guarded_verdict.Tie as tie
 
 unknown-token : (h : Sizes) (i t b : ℕ) → h .tokens ≤ t → Token (2 + i) ≡ agentVerdict h i (Whole (When t b))
 unknown-token h i t b le = rw le-leb
