@@ -1,4 +1,4 @@
--- `ending::end_of`: the live agents from i on are read.
+-- `end_of`: the live agents from i on are read.
 use mathlib.Core.Path.{_≡_, refl, sym, ap, subst, _∙_}
 use mathlib.Core.Bool.{cond}
 use mathlib.Core.List.{[], _∷_, List·Memᴰ·head}
@@ -8,12 +8,12 @@ use Rattle.tcc.specs.Instant.{isAbort, reducible, leaves}
 use Rattle.tcc.proofs.Sets.{true-is-false}
 use Rattle.format.specs.Decode.{decode}
 use Rattle.store.specs.Flags.{setOf}
-use Rattle.engine.proofs.Known.{agents-all, agents-few, token-few, part-lower, flag-has}
-use Rattle.engine.proofs.Others.{Spent, spent}
-use Rattle.engine.proofs.Answers.{Ending, ending-none, Reading, abort-found, ending-by, ending-reduced, ending-waits, ending-left, ending-free, ending-count, ending-awake}
+use Rattle.store.proofs.Known.{agents-all, agents-few, token-few, part-lower, flag-has}
+use Rattle.ending.proofs.Spent.{Spent, spent}
+use Rattle.ending.proofs.Answers.{Ending, ending-none, Reading, abort-found, ending-by, ending-reduced, ending-waits, ending-left, ending-free, ending-count, ending-awake}
 use borrow.Author.Needs.{needs}
-use Rattle.engine.proofs.ending.end_of.Statement.{statement}
-use Rattle.engine.proofs.ending.end_of.Tie as tie
+use Rattle.ending.proofs.end_of.Statement.{statement}
+use Rattle.ending.proofs.end_of.Tie as tie
 
 abbrev Inv-loop : tie.InvT-loop
 Inv-loop s live held count₀ awake₀ i₀ count awake i = (i ≤ i₀) × Ending (decode s) (setOf held) live i count awake

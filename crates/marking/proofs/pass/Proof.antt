@@ -8,13 +8,13 @@ use Rattle.tcc.proofs.Sets.{true-is-false}
 use Rattle.format.specs.Decode.{decode}
 use Rattle.store.specs.Flags.{setOf}
 use Rattle.store.proofs.Flags.{member-flag}
-use Rattle.engine.specs.Marks.{Served, Passed}
-use Rattle.engine.proofs.Known.{agents-all, agents-few, token-few, procedure-known}
-use Rattle.engine.proofs.Others.{idle}
-use Rattle.engine.proofs.Passing.{passed-none, passed-by, Coming, part-few, served-here, tells-new, tells-held, splits, answers, waits, root-few, calls-new, calls-live}
+use Rattle.marking.specs.Passed.{Served, Passed}
+use Rattle.store.proofs.Known.{agents-all, agents-few, token-few, procedure-known}
+use Rattle.marking.proofs.Idle.{idle}
+use Rattle.marking.proofs.Passing.{passed-none, passed-by, Coming, part-few, served-here, tells-new, tells-held, splits, answers, waits, root-few, calls-new, calls-live}
 use borrow.Author.Needs.{needs}
-use Rattle.engine.proofs.pass.Statement.{statement}
-use Rattle.engine.proofs.pass.Tie as tie
+use Rattle.marking.proofs.pass.Statement.{statement}
+use Rattle.marking.proofs.pass.Tie as tie
 
 abbrev Inv-loop : tie.InvT-loop
 Inv-loop s head live₀ held₀ grew₀ i₀ live held grew i = (i ≤ head .agents) × Passed (decode s) i live₀ held₀ live held grew

@@ -27,8 +27,8 @@ use Rattle.tcc.proofs.Sets.{Among, true-is-false}
 use Rattle.tcc.proofs.FixedPoint.{reach}
 use Rattle.store.specs.Flags.{setOf}
 use Rattle.store.proofs.Flags.{flag-member, member-flag, set-kept, set-here, set-cases, set-longer, set-more}
-use Rattle.engine.specs.Marks.{Served, Passed}
-use Rattle.engine.proofs.Known.{part-lower}
+use Rattle.marking.specs.Passed.{Served, Passed}
+use Rattle.store.proofs.Known.{part-lower}
 
 module _ (sc : Score) where
   served-more : (lives more holds : List ℕ) → Among lives more → (a : Agent) → Served sc lives holds a → Served sc more holds a

@@ -23,7 +23,7 @@ use Rattle.tcc.proofs.Sets.{true-is-false, any-some, some-any}
 use Rattle.tcc.proofs.FixedPoint.{awake-member, member-awake}
 use Rattle.store.specs.Flags.{setOf, flagsOf}
 use Rattle.store.proofs.Flags.{flag-member, member-flag, keep-append, set-kept, set-here, set-cases, setOf-none, flags-settled}
-use Rattle.engine.proofs.Known.{flag-has}
+use Rattle.store.proofs.Known.{flag-has}
 
 counted : (f : ℕ → Bool) (k : ℕ) (b : Bool) → f k ≡ b → length (keep f (below (k + 1))) ≡ cond b 1 0 + length (keep f (below k))
 counted f k b p =

@@ -9,7 +9,7 @@ use Rattle.tcc.specs.Sets.{any}
 use Rattle.tcc.specs.Score.{Score, agentAt}
 use Rattle.tcc.specs.Instant.{isAbort, reducedOf, leftAwake}
 use Rattle.store.specs.Flags.{flagsOf}
-use Rattle.engine.specs.declared.ending.Ending.{Ending}
+use Rattle.ending.specs.declared.Ending.{Ending}
 
 pub record Ended (sc : Score) (live held : List ℕ) (end : Ending) : Type 0 where
   pub aborted : end .aborted ≡ any (λ i. isAbort (agentAt sc i)) live
