@@ -12,8 +12,9 @@ use Rattle.lent.specs.States.{asBytes}
 use Rattle.lent.specs.Lengths.{noScratch}
 use Rattle.history.specs.RunCall.{Lent, lent, Exit, exit}
 use Rattle.history.proofs.RunExits.{turned}
-use Rattle.score.specs.Answer.{packed, numberIn}
-use Rattle.score.specs.ScoreRun.{ofRunReply, ScoreRun}
+use Rattle.answer.specs.Answer.{packed, numberIn}
+use Rattle.answer.specs.Replies.{ofRunReply}
+use Rattle.score.specs.ScoreRun.{ScoreRun}
 use Rattle.runner.specs.Play.{fromStart, Played}
 
 module _ (score inputs state journal : List ℕ) (starts : numberOf (verdict score) ≡ 0 → state ≡ asBytes (startState (decode score))) where

@@ -16,7 +16,7 @@ use Rattle.format.specs.Decode.{decode}
 use Rattle.lent.specs.States.{asBytes}
 use Rattle.lent.specs.Lengths.{noScratch}
 use Rattle.history.specs.RunCall.{Lent, lent}
-use Rattle.score.specs.Answer.{numberIn}
+use Rattle.answer.specs.Answer.{numberIn}
 use Rattle.score.specs.ScoreRun.{ScoreRun}
 use Rattle.demands.specs.Calls.{written}
 use Rattle.demands.specs.JournalExact.{startHistory}

@@ -9,7 +9,7 @@ ghost use Rattle.words.specs.Word.{words};
 ghost use Rattle.scorefile.specs.Check.{verdict, numberOf};
 ghost use Rattle.lent.specs.Lengths.{stateBytes};
 ghost use Rattle.lent.specs.States.{asBytes};
-ghost use Rattle.score.specs.Answer.{numberIn};
+ghost use Rattle.answer.specs.Answer.{numberIn};
 ghost use Rattle.io.specs.Counts.{Counts};
 ghost use Rattle.runner.specs.Play.{Played, shown};
 ghost use Rattle.runner.specs.Text.{digitAt as Text·digitAt, line as Text·line};

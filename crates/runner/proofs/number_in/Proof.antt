@@ -1,7 +1,7 @@
 -- `number_in`: by the answer's layout.
 use borrow.Author.Needs.{needs}
 use borrow.Author.Tests.{eq-eqb, ne-eqb}
-use Rattle.score.specs.Answer.{numberIn}
+use Rattle.answer.specs.Answer.{numberIn}
 use Rattle.runner.proofs.number_in.Statement.{statement}
 use Rattle.runner.proofs.number_in.Tie as tie
 

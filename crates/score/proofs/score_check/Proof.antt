@@ -2,9 +2,9 @@
 use mathlib.Core.Path.{ap, _∙_}
 use Rattle.scorefile.specs.Check.{numberOf, valueOf, verdict}
 use Rattle.scorefile.proofs.Values.{verdict-small, number-few}
-use Rattle.score.specs.Answer.{packed}
-use Rattle.score.specs.CheckCall.{ofVerdict}
-use Rattle.score.proofs.CheckCall.{reply-fits}
+use Rattle.answer.specs.Answer.{packed}
+use Rattle.answer.specs.Replies.{ofVerdict}
+use Rattle.answer.proofs.Replies.{reply-fits}
 use borrow.Author.Needs.{needs}
 use Rattle.score.proofs.score_check.Statement.{statement}
 use Rattle.score.proofs.score_check.Tie as tie

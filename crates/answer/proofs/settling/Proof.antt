@@ -1,9 +1,9 @@
 -- `settling`: a status and a count, packed.
 use mathlib.Core.Path.{refl}
-use Rattle.score.specs.Answer.{packed}
+use Rattle.answer.specs.Answer.{packed}
 use borrow.Author.Needs.{needs}
-use Rattle.score.proofs.settling.Statement.{statement}
-use Rattle.score.proofs.settling.Tie as tie
+use Rattle.answer.proofs.settling.Statement.{statement}
+use Rattle.answer.proofs.settling.Tie as tie
 
 mul-result : tie.Need-mul-result
 mul-result c = search needs

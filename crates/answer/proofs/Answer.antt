@@ -5,7 +5,7 @@ use Prim.Native.Nat.{ℕ, _+_, _*_, _-_, _/_, _%_, _^_, _<_, _≤_}
 use native.Mathlib.Decide.{decLt}
 use native.Mathlib.Omega.{arith}
 use borrow.Author.Tests.{le-leb, lt-leb, ne-eqb}
-use Rattle.score.specs.Answer.{accepted, refused, settled, packed, numberIn, valueIn, statusIn, countIn, Reads, Exact}
+use Rattle.answer.specs.Answer.{accepted, refused, settled, packed, numberIn, valueIn, statusIn, countIn, Reads, Exact}
 
 -- what is read of layout 1
 record Short (a n v s c : ℕ) : Type 0 where

@@ -1,10 +1,10 @@
 -- `wide`: a number from 13 on is packed with a value of 61 bits.
 use mathlib.Core.Path.{sym}
 use borrow.Author.Tests.{le-leb}
-use Rattle.score.specs.Answer.{packed}
+use Rattle.answer.specs.Answer.{packed}
 use borrow.Author.Needs.{needs}
-use Rattle.score.proofs.wide.Statement.{statement}
-use Rattle.score.proofs.wide.Tie as tie
+use Rattle.answer.proofs.wide.Statement.{statement}
+use Rattle.answer.proofs.wide.Tie as tie
 
 sub-result : tie.Need-sub-result
 sub-result c = search needs

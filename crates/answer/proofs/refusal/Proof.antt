@@ -1,10 +1,10 @@
 -- `refusal`: a number below 13 is packed with a short value.
 use mathlib.Core.Path.{sym}
 use borrow.Author.Tests.{lt-leb}
-use Rattle.score.specs.Answer.{packed}
+use Rattle.answer.specs.Answer.{packed}
 use borrow.Author.Needs.{needs}
-use Rattle.score.proofs.refusal.Statement.{statement}
-use Rattle.score.proofs.refusal.Tie as tie
+use Rattle.answer.proofs.refusal.Statement.{statement}
+use Rattle.answer.proofs.refusal.Tie as tie
 
 mul-result : tie.Need-mul-result
 mul-result c = search needs

@@ -6,10 +6,10 @@ use Rattle.scorefile.specs.Check.{numberOf, valueOf}
 use Rattle.scorefile.specs.declared.Verdict.the-variants.{Accepted}
 use Rattle.scorefile.proofs.Accepted.{accepted-only}
 use Rattle.scorefile.proofs.Values.{number-few}
-use Rattle.score.specs.Answer.{refused, reply, packed, Fits}
+use Rattle.answer.specs.Answer.{refused, reply, packed, Fits}
 use borrow.Author.Needs.{needs}
-use Rattle.score.proofs.of_verdict.Statement.{statement}
-use Rattle.score.proofs.of_verdict.Tie as tie
+use Rattle.answer.proofs.of_verdict.Statement.{statement}
+use Rattle.answer.proofs.of_verdict.Tie as tie
 
 refused-reply : (n v : ℕ) → (n ≡ 0 → ⊥) → refused n v ≡ reply n v
 refused-reply zero v h = absurd (h refl)

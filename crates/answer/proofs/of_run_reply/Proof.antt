@@ -2,11 +2,11 @@
 use mathlib.Core.Path.{sym, ap, subst, _∙_}
 use native.Mathlib.Omega.{arith}
 use Rattle.history.specs.declared.Reply.{Reply as Replied}
-use Rattle.score.specs.Answer.{packed, Fits}
-use Rattle.score.specs.ScoreRun.{ofRunReply}
+use Rattle.answer.specs.Answer.{packed, Fits}
+use Rattle.answer.specs.Replies.{ofRunReply}
 use borrow.Author.Needs.{needs}
-use Rattle.score.proofs.of_run_reply.Statement.{statement}
-use Rattle.score.proofs.of_run_reply.Tie as tie
+use Rattle.answer.proofs.of_run_reply.Statement.{statement}
+use Rattle.answer.proofs.of_run_reply.Tie as tie
 
 enum-known-reply : tie.Need-enum-known-reply
 enum-known-reply c = search needs

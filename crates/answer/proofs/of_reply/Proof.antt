@@ -1,11 +1,11 @@
 -- `of_reply`: a reply, packed.
 use mathlib.Core.Path.{sym, ap, subst, _∙_}
 use Rattle.instant.specs.declared.Reply.{Reply as Replied}
-use Rattle.score.specs.Answer.{packed, Fits}
-use Rattle.score.specs.ScoreInstant.{ofReply}
+use Rattle.answer.specs.Answer.{packed, Fits}
+use Rattle.answer.specs.Replies.{ofReply}
 use borrow.Author.Needs.{needs}
-use Rattle.score.proofs.of_reply.Statement.{statement}
-use Rattle.score.proofs.of_reply.Tie as tie
+use Rattle.answer.proofs.of_reply.Statement.{statement}
+use Rattle.answer.proofs.of_reply.Tie as tie
 
 enum-known-reply : tie.Need-enum-known-reply
 enum-known-reply c = search needs
