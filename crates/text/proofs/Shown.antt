@@ -13,7 +13,7 @@ use native.Mathlib.Omega.{arith}
 use lib.Dec.{eqb}
 use lib.ListN.{length, getD, drop, drop-of-length-le}
 use lib.Seq.{drop-cons}
-use Rattle.runner.specs.Play.{shown}
+use Rattle.text.specs.Shown.{shown}
 
 module _ (ws : List ℕ) (k : ℕ) where
   pub shown-here : k < length ws → getD ws k 0 ≡ 0 → length (shown (drop k ws)) ≡ 0

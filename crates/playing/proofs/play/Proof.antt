@@ -1,9 +1,9 @@
 -- `play`: the run from the start state.
 use Rattle.history.specs.RunCall.{lent}
-use Rattle.runner.proofs.Played.{played}
+use Rattle.playing.proofs.Played.{played}
 use borrow.Author.Needs.{needs}
-use Rattle.runner.proofs.play.Statement.{statement}
-use Rattle.runner.proofs.play.Tie as tie
+use Rattle.playing.proofs.play.Statement.{statement}
+use Rattle.playing.proofs.play.Tie as tie
 
 start-requires : tie.Need-start-requires
 start-requires c κs = search needs

@@ -4,8 +4,8 @@ use borrow.Author.Needs.{needs}
 use Rattle.scorefile.specs.Check.{numberOf, verdict}
 use Rattle.scorefile.proofs.Accepted.{accepted-only}
 use Rattle.scorefile.proofs.Lawful.{accepted-faultless, accepted-lawful}
-use Rattle.runner.proofs.start.Statement.{statement}
-use Rattle.runner.proofs.start.Tie as tie
+use Rattle.playing.proofs.start.Statement.{statement}
+use Rattle.playing.proofs.start.Tie as tie
 
 check-requires : tie.Need-check-requires
 check-requires c κs = search needs

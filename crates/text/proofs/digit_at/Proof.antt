@@ -5,9 +5,9 @@ use borrow.Author.Needs.{needs}
 use borrow.Author.Tests.{lt-ltb, le-ltb}
 use native.Mathlib.Omega.{arith}
 use Rattle.words.proofs.Field.{field-below}
-use Rattle.runner.specs.Text.{digit}
-use Rattle.runner.proofs.digit_at.Statement.{statement}
-use Rattle.runner.proofs.digit_at.Tie as tie
+use Rattle.text.specs.Text.{digit}
+use Rattle.text.proofs.digit_at.Statement.{statement}
+use Rattle.text.proofs.digit_at.Tie as tie
 
 -- the digit of a number
 low : {d : ℕ} (e : ℕ) → d ≡ e → d < 10 → 48 + d ≡ digit e

@@ -15,7 +15,7 @@ use Rattle.history.proofs.RunExits.{turned}
 use Rattle.answer.specs.Answer.{packed, numberIn}
 use Rattle.answer.specs.Replies.{ofRunReply}
 use Rattle.score.specs.ScoreRun.{ScoreRun}
-use Rattle.runner.specs.Play.{fromStart, Played}
+use Rattle.playing.specs.Played.{fromStart, Played}
 
 module _ (score inputs state journal : List ℕ) (starts : numberOf (verdict score) ≡ 0 → state ≡ asBytes (startState (decode score))) where
   abbrev before : Lent

@@ -2,8 +2,8 @@
 use borrow.Author.Needs.{needs}
 use borrow.Author.Tests.{eq-eqb, ne-eqb}
 use Rattle.answer.specs.Answer.{numberIn}
-use Rattle.runner.proofs.number_in.Statement.{statement}
-use Rattle.runner.proofs.number_in.Tie as tie
+use Rattle.playing.proofs.number_in.Statement.{statement}
+use Rattle.playing.proofs.number_in.Tie as tie
 
 add-result : tie.Need-add-result
 add-result c = search needs

@@ -5,10 +5,10 @@ use borrow.Author.Needs.{needs}
 use native.Mathlib.Omega.{arith}
 use lib.ListN.{length, drop}
 use Rattle.words.specs.Word.{words}
-use Rattle.runner.specs.Play.{shown}
-use Rattle.runner.proofs.Shown.{shown-here, shown-more, shown-end}
-use Rattle.runner.proofs.shown_words.Statement.{statement}
-use Rattle.runner.proofs.shown_words.Tie as tie
+use Rattle.text.specs.Shown.{shown}
+use Rattle.text.proofs.Shown.{shown-here, shown-more, shown-end}
+use Rattle.text.proofs.shown_words.Statement.{statement}
+use Rattle.text.proofs.shown_words.Tie as tie
 
 abbrev Inv-loop : tie.InvT-loop
 Inv-loop journal count k₀ k = (count ≡ length (words journal)) × (k ≤ count) × (length (shown (words journal)) ≡ k + length (shown (drop k (words journal))))

@@ -1,7 +1,7 @@
 -- `line`: a digit at each place.
 use borrow.Author.Needs.{needs}
-use Rattle.runner.proofs.line.Statement.{statement}
-use Rattle.runner.proofs.line.Tie as tie
+use Rattle.text.proofs.line.Statement.{statement}
+use Rattle.text.proofs.line.Tie as tie
 
 digit-at-requires : tie.Need-digit-at-requires
 digit-at-requires c κs = search needs
