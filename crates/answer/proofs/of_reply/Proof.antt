@@ -1,8 +1,9 @@
 -- `of_reply`: a reply, packed.
-use mathlib.Core.Path.{sym, ap, subst, _∙_}
+use mathlib.Core.Path.{refl, subst}
 use Rattle.instant.specs.declared.Reply.{Reply as Replied}
-use Rattle.answer.specs.Answer.{packed, Fits}
+use Rattle.answer.specs.Answer.{Fits}
 use Rattle.answer.specs.Replies.{ofReply}
+use Rattle.answer.proofs.Replies.{as-told}
 use borrow.Author.Needs.{needs}
 use Rattle.answer.proofs.of_reply.Statement.{statement}
 use Rattle.answer.proofs.of_reply.Tie as tie
@@ -44,22 +45,22 @@ settling-requires : tie.Need-settling-requires
 settling-requires c κs = subst (λ (r : Replied). Fits (ofReply r)) (c .before .reply2 .given .1) (c .before .before .before .pre)
 
 returns : tie.Need-returns
-returns c = c .of-verdict .ensures ∙ ap (λ r. packed (ofReply r)) (sym (c .before .before .reply .given .1))
+returns c = as-told ofReply (c .of-verdict .ensures) (c .before .before .reply .given .1) refl
 
 returns-2 : tie.Need-returns-2
-returns-2 c = c .refusal .ensures ∙ ap (λ r. packed (ofReply r)) (sym (c .before .enum-told .given .1))
+returns-2 c = as-told ofReply (c .refusal .ensures) (c .before .enum-told .given .1) refl
 
 returns-3 : tie.Need-returns-3
-returns-3 c = c .refusal2 .ensures ∙ ap (λ r. packed (ofReply r)) (sym (c .before .enum-told2 .given .1))
+returns-3 c = as-told ofReply (c .refusal2 .ensures) (c .before .enum-told2 .given .1) refl
 
 returns-4 : tie.Need-returns-4
-returns-4 c = c .refusal3 .ensures ∙ ap (λ r. packed (ofReply r)) (sym (c .before .enum-told3 .given .1))
+returns-4 c = as-told ofReply (c .refusal3 .ensures) (c .before .enum-told3 .given .1) refl
 
 returns-5 : tie.Need-returns-5
-returns-5 c = c .refusal4 .ensures ∙ ap (λ r. packed (ofReply r)) (sym (c .before .enum-told4 .given .1))
+returns-5 c = as-told ofReply (c .refusal4 .ensures) (c .before .enum-told4 .given .1) refl
 
 returns-6 : tie.Need-returns-6
-returns-6 c = c .settling .ensures ∙ ap (λ r. packed (ofReply r)) (sym (c .before .before .reply2 .given .1))
+returns-6 c = as-told ofReply (c .settling .ensures) (c .before .before .reply2 .given .1) refl
 
 pub of-reply-spec : {M : Type 1} → statement M
 of-reply-spec =

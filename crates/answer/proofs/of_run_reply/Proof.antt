@@ -1,9 +1,10 @@
 -- `of_run_reply`: a reply, packed.
-use mathlib.Core.Path.{sym, ap, subst, _∙_}
+use mathlib.Core.Path.{refl, sym, ap, subst}
 use native.Mathlib.Omega.{arith}
 use Rattle.history.specs.declared.Reply.{Reply as Replied}
 use Rattle.answer.specs.Answer.{packed, Fits}
 use Rattle.answer.specs.Replies.{ofRunReply}
+use Rattle.answer.proofs.Replies.{as-told}
 use borrow.Author.Needs.{needs}
 use Rattle.answer.proofs.of_run_reply.Statement.{statement}
 use Rattle.answer.proofs.of_run_reply.Tie as tie
@@ -60,28 +61,28 @@ enum-known-reply-5 : tie.Need-enum-known-reply-5
 enum-known-reply-5 c = search needs
 
 returns : tie.Need-returns
-returns c = c .of-verdict .ensures ∙ ap (λ r. packed (ofRunReply r)) (sym (c .before .before .reply .given .1))
+returns c = as-told ofRunReply (c .of-verdict .ensures) (c .before .before .reply .given .1) refl
 
 returns-2 : tie.Need-returns-2
-returns-2 c = c .refusal .ensures ∙ ap (λ r. packed (ofRunReply r)) (sym (c .before .enum-told .given .1))
+returns-2 c = as-told ofRunReply (c .refusal .ensures) (c .before .enum-told .given .1) refl
 
 returns-3 : tie.Need-returns-3
-returns-3 c = c .refusal2 .ensures ∙ ap (λ r. packed (ofRunReply r)) (sym (c .before .enum-told2 .given .1))
+returns-3 c = as-told ofRunReply (c .refusal2 .ensures) (c .before .enum-told2 .given .1) refl
 
 returns-4 : tie.Need-returns-4
-returns-4 c = c .refusal3 .ensures ∙ ap (λ r. packed (ofRunReply r)) (sym (c .before .enum-told3 .given .1))
+returns-4 c = as-told ofRunReply (c .refusal3 .ensures) (c .before .enum-told3 .given .1) refl
 
 returns-5 : tie.Need-returns-5
-returns-5 c = c .refusal4 .ensures ∙ ap (λ r. packed (ofRunReply r)) (sym (c .before .enum-told4 .given .1))
+returns-5 c = as-told ofRunReply (c .refusal4 .ensures) (c .before .enum-told4 .given .1) refl
 
 returns-6 : tie.Need-returns-6
-returns-6 c = c .wide .ensures ∙ ap (λ r. packed (ofRunReply r)) (sym (c .before .before .reply2 .given .1))
+returns-6 c = as-told ofRunReply (c .wide .ensures) (c .before .before .reply2 .given .1) refl
 
 returns-7 : tie.Need-returns-7
-returns-7 c = c .wide2 .ensures ∙ ap (λ r. packed (ofRunReply r)) (sym (c .before .before .reply3 .given .1))
+returns-7 c = as-told ofRunReply (c .wide2 .ensures) (c .before .before .reply3 .given .1) refl
 
 returns-8 : tie.Need-returns-8
-returns-8 c = c .wide3 .ensures ∙ ap (λ r. packed (ofRunReply r)) (sym (c .before .before .reply4 .given .1))
+returns-8 c = as-told ofRunReply (c .wide3 .ensures) (c .before .before .reply4 .given .1) refl
 
 returns-9 : tie.Need-returns-9
 unfolding packed

@@ -7,6 +7,7 @@ use Rattle.scorefile.specs.declared.Verdict.the-variants.{Accepted}
 use Rattle.scorefile.proofs.Accepted.{accepted-only}
 use Rattle.scorefile.proofs.Values.{number-few}
 use Rattle.answer.specs.Answer.{refused, reply, packed, Fits}
+use Rattle.answer.specs.Replies.{ofVerdict}
 use borrow.Author.Needs.{needs}
 use Rattle.answer.proofs.of_verdict.Statement.{statement}
 use Rattle.answer.proofs.of_verdict.Tie as tie
@@ -27,7 +28,7 @@ unfolding packed
 returns c =
     let v = c .before .before .args .verdict in
     let e : v ≡ Accepted = accepted-only v (sym (c .before .number-of .ensures) ∙ c .if1 .taken) in
-    rw e
+    ap (λ x. packed (ofVerdict x)) (sym e)
 
 value-of-requires : tie.Need-value-of-requires
 value-of-requires c κs = search needs

@@ -1,9 +1,10 @@
 -- `end_of`: the live agents from i on are read.
 use mathlib.Core.Path.{_≡_, refl, sym, ap, subst, _∙_}
-use mathlib.Core.Bool.{cond}
+use mathlib.Core.Bool.{true, false, cond}
 use mathlib.Core.List.{[], _∷_, List·Memᴰ·head}
 use Prim.Native.Nat.{_+_, _-_, _<_, _≤_}
 use native.Mathlib.Omega.{arith}
+use lib.ListN.{getD}
 use Rattle.tcc.specs.Instant.{isAbort, reducible, leaves}
 use Rattle.tcc.proofs.Sets.{true-is-false}
 use Rattle.format.specs.Decode.{decode}
@@ -87,7 +88,8 @@ loop-again c =
     let held = a .before .before .before .before .before .before .args .held .now in
     let token = c .before .before .before .awaited in
     let e = sym (a .agent-at .ensures) ∙ token .given .1 in
-    (omega arith, ending-reduced (reading (a .before .before .before)) (a .before .if1 .taken) (ap isAbort e) (ap (leaves (setOf held)) e) (ap (reducible (setOf held)) e ∙ sym (flag-has held (token .given .0 .0)) ∙ c .if2 .taken))
+    let f : getD held (token .given .0 .0) false ≡ true = c .if2 .taken in
+    (omega arith, ending-reduced (reading (a .before .before .before)) (a .before .if1 .taken) (ap isAbort e) (ap (leaves (setOf held)) e) (ap (reducible (setOf held)) e ∙ sym (flag-has held (token .given .0 .0)) ∙ f))
 
 loop-less-2 : tie.Need-loop-less-2 Inv-loop μ-loop
 loop-less-2 c = search needs
@@ -98,7 +100,8 @@ loop-again-2 c =
     let held = a .before .before .before .before .before .before .args .held .now in
     let token = c .before .before .before .awaited in
     let e = sym (a .agent-at .ensures) ∙ token .given .1 in
-    (omega arith, ending-waits (reading (a .before .before .before)) (a .before .if1 .taken) (ap isAbort e) (ap (leaves (setOf held)) e) (ap (reducible (setOf held)) e ∙ sym (flag-has held (token .given .0 .0)) ∙ c .if2 .left))
+    let f : getD held (token .given .0 .0) false ≡ false = c .if2 .left in
+    (omega arith, ending-waits (reading (a .before .before .before)) (a .before .if1 .taken) (ap isAbort e) (ap (leaves (setOf held)) e) (ap (reducible (setOf held)) e ∙ sym (flag-has held (token .given .0 .0)) ∙ f))
 
 enum-known-body : tie.Need-enum-known-body Inv-loop μ-loop
 enum-known-body c = search needs
@@ -143,7 +146,8 @@ loop-again-4 c =
     let held = a .before .before .before .before .before .before .args .held .now in
     let token = c .before .before .before .token in
     let e = sym (a .agent-at .ensures) ∙ token .given .1 in
-    let f = sym (flag-has held (token .given .0 .0)) ∙ c .if3 .taken in
+    let in-store : getD held (token .given .0 .0) false ≡ true = c .if3 .taken in
+    let f = sym (flag-has held (token .given .0 .0)) ∙ in-store in
     (omega arith, ending-reduced (reading (a .before .before .before)) (a .before .if1 .taken) (ap isAbort e) (ap (leaves (setOf held)) e ∙ ap (λ x. cond x [] (token .given .0 .1 .0 ∷ [])) f) (ap (reducible (setOf held)) e ∙ f))
 
 left-few : (c : tie.Else3 Inv-loop μ-loop) → c .before .before .before .token .given .0 .1 .0 < 1024
@@ -165,7 +169,8 @@ loop-again-5 c =
     let held = a .before .before .before .before .before .before .args .held .now in
     let token = c .before .before .before .token in
     let e = sym (a .agent-at .ensures) ∙ token .given .1 in
-    let f = sym (flag-has held (token .given .0 .0)) ∙ c .if3 .left in
+    let not-in : getD held (token .given .0 .0) false ≡ false = c .if3 .left in
+    let f = sym (flag-has held (token .given .0 .0)) ∙ not-in in
     (omega arith, ending-left (reading (a .before .before .before)) (a .before .if1 .taken) (ap isAbort e) _ (left-few c) (ap (leaves (setOf held)) e ∙ ap (λ x. cond x [] (token .given .0 .1 .0 ∷ [])) f) (ap (reducible (setOf held)) e ∙ f))
 
 add-count-3 : tie.Need-add-count-3 Inv-loop μ-loop

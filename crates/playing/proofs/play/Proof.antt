@@ -27,7 +27,7 @@ returns : tie.Need-returns
 returns c =
     let b = c .before .before .before .before .before .before .before .before .before .before .before .before .before in
     let r = c .before .before .before .before .before .score-run in
-    played (b .args .score .now) (b .args .inputs .now) _ (b .args .journal .now) (c .before .before .before .before .before .before .before .before .before .start .ensures .1) (lent _ _ _) (r .result) (r .ensures) (c .number-in .ensures)
+    played (b .args .score .now) (b .args .inputs .now) _ (b .args .journal .now) (c .before .before .before .before .before .before .before .before .before .start .ensures .1) (lent (r .last .1 .0) (r .last .1 .1 .1 .0) (r .last .1 .1 .1 .1 .0)) (r .result) (r .ensures) (c .number-in .ensures)
 
 pub play-spec : {M : Type 1} → statement M
 play-spec =

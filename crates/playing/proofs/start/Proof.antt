@@ -1,5 +1,5 @@
 -- `start`: the state of an accepted score.
-use mathlib.Core.Path.{refl, sym, ap, _∙_}
+use mathlib.Core.Path.{_≡_, refl, sym, ap, _∙_}
 use borrow.Author.Needs.{needs}
 use Rattle.scorefile.specs.Check.{numberOf, verdict}
 use Rattle.scorefile.proofs.Accepted.{accepted-only}
@@ -19,7 +19,8 @@ slice-aggregate-write-start c = search needs
 write-start-requires : tie.Need-write-start-requires
 write-start-requires c κs =
     let s = c .before .before .before .before .before .args .score .now in
-    let e = accepted-only (verdict s) (sym (c .before .before .number-of .ensures ∙ ap numberOf (c .before .before .before .check .ensures)) ∙ c .before .if1 .taken) in
+    let zero : c .before .before .number-of .result ≡ 0 = c .before .if1 .taken in
+    let e = accepted-only (verdict s) (sym (c .before .before .number-of .ensures ∙ ap numberOf (c .before .before .before .check .ensures)) ∙ zero) in
     (record { whole = accepted-faultless s e .enough; lawful = accepted-lawful s e }, refl)
 
 returns : tie.Need-returns
