@@ -1,4 +1,4 @@
-/* answers.c: reads answers, packed here as crates/score/specs/Answer.antt says, by the functions of the header. */
+/* answers.c: reads answers, packed here as crates/answer/specs/Answer.antt says, by the functions of the header. */
 #include <stdio.h>
 
 #include "score.h"

@@ -8,7 +8,7 @@ use Prim.Native.Nat.{ℕ}
 use native.Mathlib.Decide.{ℕ-discrete}
 use Rattle.tcc.proofs.Sets.{on-cons}
 use Rattle.lent.specs.Maps.{tokensIn}
-use Rattle.score.specs.Answer.{numberIn}
+use Rattle.answer.specs.Answer.{numberIn}
 use Rattle.demands.specs.Calls.{Call, instant, run, Meets, InTurn, then, Answered, answeredBy, Answers, one, refused, those}
 use Rattle.demands.specs.Calls as calls
 use Rattle.demands.proofs.Instants.{accepted-instant, refused-state}

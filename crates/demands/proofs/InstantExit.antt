@@ -23,9 +23,9 @@ use Rattle.instant.specs.declared.Reply.{Reply}
 use Rattle.instant.specs.declared.Reply.the-variants.{Score as Turned, Lengths, State, Input}
 use Rattle.instant.specs.InstantCall.{Lent, Exit, lengthFault, tokenFault, kept, answered, exit}
 use Rattle.instant.proofs.Exits.{settled}
-use Rattle.score.specs.Answer.{numberOf}
-use Rattle.score.specs.ScoreInstant.{ofReply}
-use Rattle.score.proofs.CheckCall.{reply-number}
+use Rattle.answer.specs.Answer.{numberOf}
+use Rattle.answer.specs.Replies.{ofReply}
+use Rattle.answer.proofs.Replies.{reply-number}
 use Rattle.demands.proofs.Tests.{by-test}
 use Rattle.demands.proofs.Accepted.{given, next-faultless, input-known}
 

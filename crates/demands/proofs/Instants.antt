@@ -26,8 +26,9 @@ use Rattle.instant.specs.InstantCall.{Lent, Exit, exit}
 use Rattle.standing.proofs.Inside.{Inside, after-lawful}
 use Rattle.journal.specs.History.{instantWords, entry}
 use Rattle.journal.proofs.Rising.{output-rising, rising-map}
-use Rattle.score.specs.Answer.{numberOf, statusOf, numberIn, statusIn}
-use Rattle.score.specs.ScoreInstant.{ofReply, ScoreInstant}
+use Rattle.answer.specs.Answer.{numberOf, statusOf, numberIn, statusIn}
+use Rattle.answer.specs.Replies.{ofReply}
+use Rattle.score.specs.ScoreInstant.{ScoreInstant}
 use Rattle.score.proofs.ScoreInstant.{read}
 use Rattle.demands.specs.Calls.{Answered, answeredBy}
 use Rattle.demands.proofs.Accepted.{given, Known, input-known, lawful, given-inside, next-faultless}

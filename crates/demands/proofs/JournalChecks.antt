@@ -31,8 +31,8 @@ use Rattle.history.specs.declared.Reply.the-variants.{Unlawful, Differs, Accept
 use Rattle.history.specs.Run.{answerIn, same, checkFrom}
 use Rattle.history.specs.JournalCheckCall.{byForm, exit}
 use Rattle.history.proofs.Exact.{Stands, written-stands, check-entries, check-exact}
-use Rattle.score.specs.Answer.{numberOf, valueOf}
-use Rattle.score.specs.ScoreRun.{ofRunReply}
+use Rattle.answer.specs.Answer.{numberOf, valueOf}
+use Rattle.answer.specs.Replies.{ofRunReply}
 use Rattle.score.specs.Slice.{Slice}
 use Rattle.demands.proofs.Accepted.{lawful, agents-counted}
 

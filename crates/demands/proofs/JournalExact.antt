@@ -6,8 +6,8 @@ use mathlib.Core.Path.{refl, sym, ap, _∙_}
 use lib.ListN.{take}
 use Rattle.bits.specs.Bits.{bytesOf}
 use Rattle.parts.specs.Instants.{inputLists}
-use Rattle.score.specs.Answer.{numberOf, valueOf}
-use Rattle.score.specs.ScoreRun.{ofRunReply}
+use Rattle.answer.specs.Answer.{numberOf, valueOf}
+use Rattle.answer.specs.Replies.{ofRunReply}
 use Rattle.score.proofs.ScoreJournalCheck.{read}
 use Rattle.demands.specs.Calls.{written}
 use Rattle.demands.specs.JournalExact.{Exactly, startHistory, RunsAccepted, JournalExact}

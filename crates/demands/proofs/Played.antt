@@ -22,8 +22,9 @@ use Rattle.instant.specs.InstantCall.{Lent, lent, lengthFault, exit}
 use Rattle.instant.proofs.Exits.{Lengths-are}
 use Rattle.journal.specs.History.{Rising}
 use Rattle.journal.proofs.Rising.{rising-below, rising-map}
-use Rattle.score.specs.Answer.{numberIn, packed}
-use Rattle.score.specs.ScoreInstant.{ofReply, ScoreInstant}
+use Rattle.answer.specs.Answer.{numberIn, packed}
+use Rattle.answer.specs.Replies.{ofReply}
+use Rattle.score.specs.ScoreInstant.{ScoreInstant}
 use Rattle.demands.specs.Calls.{Answered, answeredBy, written, Plays, none, then}
 use Rattle.demands.proofs.Accepted.{given, Known, known-input}
 use Rattle.demands.proofs.Instants.{IsInstant, accepted-instant, settled-instant, after-faultless}

@@ -34,9 +34,9 @@ use Rattle.history.specs.declared.Reply.{Reply}
 use Rattle.history.specs.declared.Reply.the-variants.{Score as Turned, Lengths, State, Bytes as NoWords, Word as Against}
 use Rattle.history.specs.Run.{answerIn, stopAt, Ran, unlessStopped, runFrom}
 use Rattle.history.specs.RunCall.{Lent, Exit, lengthFault, kept, ended, byForm, exit}
-use Rattle.score.specs.Answer.{numberOf}
-use Rattle.score.specs.ScoreRun.{ofRunReply}
-use Rattle.score.proofs.CheckCall.{reply-number}
+use Rattle.answer.specs.Answer.{numberOf}
+use Rattle.answer.specs.Replies.{ofRunReply}
+use Rattle.answer.proofs.Replies.{reply-number}
 use Rattle.demands.proofs.Tests.{by-test}
 use Rattle.demands.proofs.Accepted.{given, next-faultless}
 

@@ -25,8 +25,9 @@ use Rattle.history.specs.declared.Stop.the-variants.{Not, Next, Room}
 use Rattle.history.specs.Run.{answerIn, stopAt, Ran, unlessStopped, runFrom}
 use Rattle.history.specs.RunCall.{ending, ended}
 use Rattle.history.specs.RunCall as run
-use Rattle.score.specs.Answer.{numberOf, valueOf, numberIn, valueIn}
-use Rattle.score.specs.ScoreRun.{ofRunReply, ScoreRun}
+use Rattle.answer.specs.Answer.{numberOf, valueOf, numberIn, valueIn}
+use Rattle.answer.specs.Replies.{ofRunReply}
+use Rattle.score.specs.ScoreRun.{ScoreRun}
 use Rattle.score.proofs.ScoreRun.{read}
 use Rattle.demands.specs.Calls.{Answered, written, Plays, none, then}
 use Rattle.demands.specs.Determinacy.{shownBy, Shows}

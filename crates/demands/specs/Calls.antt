@@ -20,7 +20,7 @@ use Rattle.lent.specs.Maps.{tokensIn, mapOf}
 use Rattle.instant.specs.InstantCall.{Lent}
 use Rattle.parts.specs.Instants.{inputLists}
 use Rattle.history.specs.RunCall.{Lent as RunLent}
-use Rattle.score.specs.Answer.{numberIn, valueIn, statusIn}
+use Rattle.answer.specs.Answer.{numberIn, valueIn, statusIn}
 use Rattle.score.specs.ScoreInstant.{ScoreInstant}
 use Rattle.score.specs.ScoreRun.{ScoreRun}
 

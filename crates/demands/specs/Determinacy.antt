@@ -33,7 +33,7 @@ use Rattle.parts.specs.Instants.{inputLists}
 use Rattle.journal.specs.History.{instantWords}
 use Rattle.instant.specs.InstantCall.{Lent}
 use Rattle.history.specs.RunCall.{Lent as RunLent}
-use Rattle.score.specs.Answer.{numberIn}
+use Rattle.answer.specs.Answer.{numberIn}
 use Rattle.demands.specs.Calls.{Call, instant, run, InTurn, Answered, written, Plays, Answers}
 
 abbrev pub Running : List ℕ → Type 0

@@ -19,7 +19,7 @@ use Rattle.lent.specs.Lengths.{scratchBytes}
 use Rattle.parts.specs.Instants.{inputLists}
 use Rattle.journal.specs.History.{history, IsHistory}
 use Rattle.history.specs.RunCall.{Lent}
-use Rattle.score.specs.Answer.{numberIn, valueIn}
+use Rattle.answer.specs.Answer.{numberIn, valueIn}
 use Rattle.score.specs.ScoreRun.{ScoreRun}
 use Rattle.score.specs.ScoreJournalCheck.{ScoreJournalCheck}
 use Rattle.demands.specs.Calls.{written}

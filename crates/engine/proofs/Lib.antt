@@ -1,7 +1,3 @@
-pub mod Known
 pub mod Closing
-pub mod Others
-pub mod Passing
 pub mod Settling
-pub mod Answers
 pub mod Outcomes

@@ -4,15 +4,11 @@ ghost use Rattle.tcc.specs.Instant.{instant};
 ghost use Rattle.format.specs.Decode.{sizes, decode};
 ghost use Rattle.store.specs.Flags.{setOf};
 ghost use Rattle.store.specs.Playable.{Playable};
-ghost use Rattle.engine.specs.Marks.{Passed, Fixed};
+ghost use Rattle.engine.specs.Marks.{Fixed};
 ghost use Rattle.engine.specs.Outcome.{outcomeOf};
+use format::Sizes;
 use store::Agents;
 use store::Tokens;
-use tcc::Agent;
-
-mod ending;
-
-use format::Sizes;
 
 // What the engine returns of an instant.
 pub struct Outcome {
@@ -59,52 +55,8 @@ fn settle(s: &[u8], head: Sizes, live: &mut Agents, inputs: Tokens) -> Tokens
     ensures { λ r. ⌜ Fixed (decode (now (s .entry))) (setOf (now (live .entry))) (setOf inputs) (setOf (now (live .exit))) (setOf r) ⌝ }
 {
     let mut held = store::closed(s, head, inputs);
-    while pass(s, head, live, &mut held) {
+    while marking::pass(s, head, live, &mut held) {
         held = store::closed(s, head, held);
     }
     held
-}
-
-// One pass over the agents, from the highest on, in which each live agent has its effect: a body or half has a lower
-// number than its agent, so that a mark goes all the way down. Says whether another pass may find more.
-fn pass(s: &[u8], head: Sizes, live: &mut Agents, held: &mut Tokens) -> bool
-    requires { ⌜ head ≡ sizes (now s) ⌝ }
-    requires { ⌜ Playable (now s) ⌝ }
-    requires { ⌜ length (now live) ≡ 1024 ⌝ }
-    requires { ⌜ length (now held) ≡ 256 ⌝ }
-    ensures { λ r. ⌜ Passed (decode (now (s .entry))) 0 (now (live .entry)) (now (held .entry)) (now (live .exit)) (now (held .exit)) r ⌝ }
-{
-    let mut grew = false;
-    let mut i = head.agents;
-    while 0 < i {
-        i -= 1;
-        if live[i] {
-            match format::agent_at(s, i) {
-                Agent::Tell(token) => {
-                    if !held[token] {
-                        held[token] = true;
-                        grew = true;
-                    }
-                }
-                Agent::Parallel(a, b) => {
-                    live[a] = true;
-                    live[b] = true;
-                }
-                Agent::When(token, body) => {
-                    if held[token] {
-                        live[body] = true;
-                    }
-                }
-                Agent::Call(procedure) => {
-                    let root = format::root_of(s, head.agents, procedure);
-                    if !live[root] {
-                        live[root] = true;
-                        grew = true;
-                    }
-                }
-                _ => {}
-            }
-        }
-    }
-    grew
 }

@@ -1,3 +1,1 @@
-pub mod Played
-pub mod Shown
 pub mod Printed

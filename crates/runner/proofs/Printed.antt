@@ -19,7 +19,9 @@ use Rattle.demands.specs.JournalExact.{startHistory}
 use Rattle.demands.proofs.Accepted.{lawful}
 use Rattle.demands.proofs.Runs.{Ended, refused, ran, run-ended, taken-rises}
 use Rattle.demands.proofs.JournalRuns.{run-writes}
-use Rattle.runner.specs.Play.{fromStart, shown, Printed}
+use Rattle.text.specs.Shown.{shown}
+use Rattle.playing.specs.Played.{fromStart}
+use Rattle.runner.specs.Printed.{Printed}
 
 -- zeros
 

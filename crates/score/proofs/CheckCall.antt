@@ -2,32 +2,20 @@
 --     one-exit         the contract settles the number returned
 --     one-answer       two calls that return the same number found the same
 --     read             a caller reads the verdict's number and value
-use mathlib.Core.Path.{_≡_, refl, sym, ap, _∙_}
+use mathlib.Core.Path.{_≡_, sym, ap, _∙_}
 use mathlib.Core.List.{List}
-use Prim.Native.Nat.{ℕ, zero, suc, _^_, _<_, _≤_}
-use native.Mathlib.Omega.{arith}
+use Prim.Native.Nat.{ℕ}
 use Rattle.scorefile.specs.Check.{verdict}
 use Rattle.verdicts.specs.Verdicts as verdicts
 use Rattle.verdicts.proofs.Verdicts.{number-few, verdict-settled}
 use Rattle.scorefile.proofs.Values.{verdict-small}
-use Rattle.score.specs.Answer.{reply, numberIn, valueIn, numberOf, valueOf, Fits}
+use Rattle.answer.specs.Answer.{reply, numberIn, valueIn}
+use Rattle.answer.proofs.Answer.{exact}
+use Rattle.answer.proofs.Replies.{reply-number, reply-value, reply-fits}
 use Rattle.score.specs.CheckCall.{CheckCall, OneExit, OneAnswer}
-use Rattle.score.proofs.Answer.{exact}
 
 pub one-exit : OneExit
 one-exit s a b p q = p .answered ∙ sym (q .answered)
-
-pub reply-number : (n v : ℕ) → numberOf (reply n v) ≡ n
-reply-number zero v = refl
-reply-number (suc n) v = refl
-
-pub reply-value : (n v : ℕ) → valueOf (reply n v) ≡ v
-reply-value zero v = refl
-reply-value (suc n) v = refl
-
-pub reply-fits : (n v : ℕ) → n ≤ 7 → v < 2 ^ 24 → Fits (reply n v)
-reply-fits zero v hn hv = omega arith
-reply-fits (suc n) v hn hv = omega arith
 
 pub read : (s : List ℕ) (a : ℕ) → CheckCall s a → (numberIn a ≡ verdicts.numberOf (verdict s)) × (valueIn a ≡ verdicts.valueOf (verdict s))
 read s a c =

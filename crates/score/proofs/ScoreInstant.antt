@@ -31,10 +31,11 @@ use Rattle.instant.specs.declared.Reply.{Reply as Replied}
 use Rattle.instant.specs.declared.Reply.the-variants.{Score as Turned, Lengths, State, Input, Next, Settled}
 use Rattle.instant.specs.InstantCall.{Lent, Exit, lengthFault, tokenFault, kept, exit, InstantCall}
 use Rattle.journal.proofs.Histories.{answer-status}
-use Rattle.score.specs.Answer.{numberOf, valueOf, statusOf, countOf, Fits, packed, Reads}
-use Rattle.score.specs.ScoreInstant.{ofReply, ScoreInstant, OneExit, OneAnswer}
-use Rattle.score.proofs.Answer.{exact}
-use Rattle.score.proofs.CheckCall.{reply-number, reply-value, reply-fits}
+use Rattle.answer.specs.Answer.{numberOf, valueOf, statusOf, countOf, Fits, packed, Reads}
+use Rattle.answer.specs.Replies.{ofReply}
+use Rattle.answer.proofs.Answer.{exact}
+use Rattle.answer.proofs.Replies.{reply-number, reply-value, reply-fits}
+use Rattle.score.specs.ScoreInstant.{ScoreInstant, OneExit, OneAnswer}
 
 pub one-exit : OneExit
 one-exit score input before after₁ after₂ a b p q = (p .written ∙ sym (q .written), p .answered ∙ sym (q .answered))

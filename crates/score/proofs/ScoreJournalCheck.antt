@@ -10,11 +10,11 @@ use Prim.Native.Nat.{ℕ}
 use Rattle.history.specs.declared.Reply.{Reply as Replied}
 use Rattle.history.specs.JournalCheckCall.{Exit, exit, JournalCheckCall}
 use Rattle.history.proofs.Replies.{check-proper}
-use Rattle.score.specs.Answer.{Fits, packed, Reads}
-use Rattle.score.specs.ScoreRun.{ofRunReply}
+use Rattle.answer.specs.Answer.{Fits, packed, Reads}
+use Rattle.answer.specs.Replies.{ofRunReply}
+use Rattle.answer.proofs.Answer.{exact}
 use Rattle.score.specs.ScoreJournalCheck.{ScoreJournalCheck, OneExit}
 use Rattle.score.specs.Slice.{Slice}
-use Rattle.score.proofs.Answer.{exact}
 use Rattle.score.proofs.ScoreRun.{proper-fits, words-few}
 
 pub one-exit : OneExit

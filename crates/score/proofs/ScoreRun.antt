@@ -18,11 +18,12 @@ use Rattle.scorefile.proofs.Values.{verdict-small}
 use Rattle.history.specs.declared.Reply.{Reply as Replied}
 use Rattle.history.specs.RunCall.{Lent, Exit, exit, RunCall}
 use Rattle.history.proofs.Replies.{Proper, turned, lengths, no-state, unlawful, bytes, word, differs, full, accepted, run-proper}
-use Rattle.score.specs.Answer.{Fits, packed, Reads}
-use Rattle.score.specs.ScoreRun.{ofRunReply, ScoreRun, OneExit}
+use Rattle.answer.specs.Answer.{Fits, packed, Reads}
+use Rattle.answer.specs.Replies.{ofRunReply}
+use Rattle.answer.proofs.Answer.{exact}
+use Rattle.answer.proofs.Replies.{reply-fits}
+use Rattle.score.specs.ScoreRun.{ScoreRun, OneExit}
 use Rattle.score.specs.Slice.{Slice}
-use Rattle.score.proofs.Answer.{exact}
-use Rattle.score.proofs.CheckCall.{reply-fits}
 
 pub one-exit : OneExit
 one-exit score inputs before after₁ after₂ a b p q = (p .written ∙ sym (q .written), p .answered ∙ sym (q .answered))

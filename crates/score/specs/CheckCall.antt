@@ -1,18 +1,13 @@
 -- What a call of score_check does: it writes nothing and returns the verdict on the bytes lent.
---     ofVerdict      a verdict as an answer
 --     CheckCall      the call's contract, over the score's bytes and the number returned
 --     OneExit        it settles the number returned
 --     OneAnswer      two calls that return the same number found the same
 use mathlib.Core.Path.{_≡_}
 use mathlib.Core.List.{List}
 use Prim.Native.Nat.{ℕ}
-use Rattle.verdicts.specs.declared.Verdict.{Verdict}
-use Rattle.verdicts.specs.Verdicts.{numberOf, valueOf}
 use Rattle.scorefile.specs.Check.{verdict}
-use Rattle.score.specs.Answer.{Reply, reply, packed}
-
-abbrev pub ofVerdict : Verdict → Reply
-ofVerdict v = reply (numberOf v) (valueOf v)
+use Rattle.answer.specs.Answer.{packed}
+use Rattle.answer.specs.Replies.{ofVerdict}
 
 pub record CheckCall (score : List ℕ) (answer : ℕ) : Type 0 where
   pub answered : answer ≡ packed (ofVerdict (verdict score))

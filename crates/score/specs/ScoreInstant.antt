@@ -1,6 +1,5 @@
 -- What a call of score_instant does: it returns the reply of the instant call on the bytes lent, packed, and the four
 -- buffers that it may write hold what that call leaves in them.
---     ofReply           a reply as an answer, by the table's numbers
 --     ScoreInstant      the call's contract, over the bytes of the score and of the input, of the four buffers before
 --                       and after, and the number returned
 --     OneExit           it settles every byte of those buffers and the number returned
@@ -8,19 +7,9 @@
 use mathlib.Core.Path.{_≡_}
 use mathlib.Core.List.{List}
 use Prim.Native.Nat.{ℕ}
-use Rattle.instant.specs.declared.Reply.{Reply as Replied}
-use Rattle.instant.specs.declared.Reply.the-variants.{Score as Turned, Lengths, State, Input, Next, Settled}
 use Rattle.instant.specs.InstantCall.{Lent, exit}
-use Rattle.score.specs.Answer.{Reply, refused, settled, packed}
-use Rattle.score.specs.CheckCall.{ofVerdict}
-
-abbrev pub ofReply : Replied → Reply
-ofReply (Turned v) = ofVerdict v
-ofReply Lengths = refused 8 0
-ofReply State = refused 9 0
-ofReply Input = refused 10 0
-ofReply Next = refused 11 0
-ofReply (Settled status count) = settled status count
+use Rattle.answer.specs.Answer.{packed}
+use Rattle.answer.specs.Replies.{ofReply}
 
 pub record ScoreInstant (score input : List ℕ) (before after : Lent) (answer : ℕ) : Type 0 where
   pub written : after ≡ exit score input before .lent

@@ -1,3 +1,4 @@
 pub mod Flags
+pub mod Known
 pub mod Passes
 pub mod Settles

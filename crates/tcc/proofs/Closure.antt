@@ -14,7 +14,7 @@ use mathlib.Core.Path.{_≡_, refl, ap}
 use mathlib.Core.Bool.{Bool, true, false}
 use mathlib.Core.List.{List, [], _∷_, List·Memᴰ, List·Memᴰ·head, List·Memᴰ·tail, List·Memᴰ·cases-cons, Memᴰ·cast}
 use mathlib.Core.Logic.{_⊎_, inl, inr, ⊎-elim}
-use Prim.Native.Nat.{ℕ, zero, suc, _≤_, _<_, suc-le-suc}
+use Prim.Native.Nat.{ℕ, zero, suc, _≤_}
 use native.Mathlib.Omega.{arith}
 use lib.ListN.{length}
 use lib.Dec.{eqb}
@@ -34,9 +34,9 @@ Follows P rules = Within (Passes P) rules
 
 -- rule f fires, rest are the others
 pub record Found {A : Type 0} (same : A → A → Bool) (s : List A) (rules : List (Rule A)) (f : Rule A) (rest : List (Rule A)) : Type 0 where
+  pub one-less : suc (length rest) ≡ length rules
   pub all : (r : Rule A) → List·Memᴰ r rules → (r ≡ f) ⊎ List·Memᴰ r rest
   pub others : Among rest rules
-  pub shorter : length rest < length rules
   pub does-fire : fires same s f ≡ true
   pub one-of : List·Memᴰ f rules
 
@@ -53,9 +53,9 @@ module _ {A : Type 0} (same : A → A → Bool) where
   passing-finds : (s : List A) (r : Rule A) (rules : List (Rule A)) (f : Firing A) → fires same s r ≡ false → Finds same s rules f → Finds same s (r ∷ rules) (passing same r f)
   passing-finds s r rules silent e h = on-cons (λ p. true-is-false p e) h
   passing-finds s r rules (found f rest) e h = record {
+    one-less = let n = h .one-less in omega arith;
     all = on-cons (inr (List·Memᴰ·head refl)) (λ q m. ⊎-elim (λ (p : q ≡ f). inl p) (λ (k : List·Memᴰ q rest). inr (List·Memᴰ·tail k)) (h .all q m));
     others = on-cons (List·Memᴰ·head refl) (λ q m. List·Memᴰ·tail (h .others q m));
-    shorter = suc-le-suc (h .shorter);
     does-fire = h .does-fire;
     one-of = List·Memᴰ·tail (h .one-of);
   }
@@ -66,7 +66,7 @@ module _ {A : Type 0} (same : A → A → Bool) where
   firing-finds s (r ∷ rules) = go (fires same s r) refl (firing-finds s rules)
     where
       go : (b : Bool) → fires same s r ≡ b → Finds same s rules (firing same s rules) → Finds same s (r ∷ rules) (elim b [ true ↦ found r rules | false ↦ passing same r (firing same s rules) ])
-      go true e h = record { all = λ q m. List·Memᴰ·cases-cons m; others = λ q m. List·Memᴰ·tail m; shorter = omega arith; does-fire = e; one-of = List·Memᴰ·head refl }
+      go true e h = record { one-less = refl; all = λ q m. List·Memᴰ·cases-cons m; others = λ q m. List·Memᴰ·tail m; does-fire = e; one-of = List·Memᴰ·head refl }
       go false e h = passing-finds s r rules (firing same s rules) e h
 
   within-above : (n : ℕ) (rules : List (Rule A)) (s : List A) → Among s (closeWithin same n rules s)
@@ -107,7 +107,7 @@ module _ {A : Type 0} (same : A → A → Bool) where
         go silent none deeper h = absurd (none r m (premises-fire s r h))
         go (found q rest) finds deeper h = ⊎-elim
             (λ (e : r ≡ q). Memᴰ·cast (ap (λ x. x .conclusion) e) (within-above n rest (q .conclusion ∷ s) (q .conclusion) (List·Memᴰ·head refl)))
-            (λ (k : List·Memᴰ r rest). deeper rest (q .conclusion ∷ s) (let l = finds .shorter in omega arith) k h)
+            (λ (k : List·Memᴰ r rest). deeper rest (q .conclusion ∷ s) (let l = finds .one-less in omega arith) k h)
             (finds .all r m)
 
     pub close-closed : (rules : List (Rule A)) (s : List A) → Follows (λ x. List·Memᴰ x (close same rules s)) rules

@@ -3,6 +3,7 @@
 --     Holds, Reached             marks as a property of facts; the facts reached
 --     live-in, in-live           a number is in `liveIn` if and only if its fact is a member; so `held-in`, `in-held`
 --     is-abort                   the test of abort
+--     second                     a list of two has its second member
 --     on-effects, effects-in     the rules of `effectsFrom` are the effects of each agent
 --     effects-follow             closed marks are closed under each agent's effects; so under all, and under the store's rules
 --     reached-least              closed marks hold whatever is reached
@@ -77,6 +78,9 @@ is-abort (Next b) e = absurd (true-is-false e refl)
 is-abort (Unless t b) e = absurd (true-is-false e refl)
 is-abort (Call p) e = absurd (true-is-false e refl)
 
+second : {A : Type 0} (x y : A) → List·Memᴰ y (x ∷ y ∷ [])
+second x y = List·Memᴰ·tail (List·Memᴰ·head refl)
+
 module _ (sc : Score) where
   pub on-effects : {P : Rule Fact → Type 0} (n : ℕ) (l : List Agent) → ((i k : ℕ) → k ≡ n + i → Within P (effects sc k (getD l i Skip))) → Within P (effectsFrom sc n l)
   on-effects {P} n [] h r m = elim m [ ]
@@ -94,7 +98,7 @@ module _ (sc : Score) where
       effects-follow i Abort e = λ r m. elim m [ ]
       effects-follow i (Tell t) e = on-cons (λ h. closed .tells i t (h (live i) (List·Memᴰ·head refl)) e) (λ r m. elim m [ ])
       effects-follow i (Parallel a b) e = on-cons (λ h. closed .splits i a b (h (live i) (List·Memᴰ·head refl)) e .0) (on-cons (λ h. closed .splits i a b (h (live i) (List·Memᴰ·head refl)) e .1) (λ r m. elim m [ ]))
-      effects-follow i (When t b) e = on-cons (λ h. closed .awaits i t b (h (live i) (List·Memᴰ·head refl)) e (h (held t) (List·Memᴰ·tail (List·Memᴰ·head refl)))) (λ r m. elim m [ ])
+      effects-follow i (When t b) e = on-cons (λ h. closed .awaits i t b (h (live i) (List·Memᴰ·head refl)) e (h (held t) (second (live i) (held t)))) (λ r m. elim m [ ])
       effects-follow i (Next b) e = λ r m. elim m [ ]
       effects-follow i (Unless t b) e = λ r m. elim m [ ]
       effects-follow i (Call p) e = on-cons (λ h. closed .calls i p (h (live i) (List·Memᴰ·head refl)) e) (λ r m. elim m [ ])

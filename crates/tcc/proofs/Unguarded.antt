@@ -110,7 +110,9 @@ module _ (sc : Score) (M : Met → Type 0) (closed : Follows M (wayRules sc)) wh
   second-met i {a} {b} e h = way-met i (from (agent i) (agent b)) e (List·Memᴰ·tail (List·Memᴰ·head refl)) (on-cons h (λ x m. elim m [ ]))
 
   body-met : (i : ℕ) {t b : ℕ} → agentAt sc i ≡ When t b → M (agent i) → M (agent b)
-  body-met i {t} {b} e h = way-met i (from (agent i) (agent b)) e (List·Memᴰ·head refl) (on-cons h (λ x m. elim m [ ]))
+  body-met i {t} {b} e h =
+      let only : List·Memᴰ (from (agent i) (agent b)) (from (agent i) (agent b) ∷ []) = List·Memᴰ·head refl in
+      way-met i (from (agent i) (agent b)) e only (on-cons h (λ x m. elim m [ ]))
 
   call-met : (i : ℕ) {p : ℕ} → agentAt sc i ≡ Call p → M (agent i) → M (procedure p)
   call-met i {p} e h = way-met i (from (agent i) (procedure p)) e (List·Memᴰ·head refl) (on-cons h (λ x m. elim m [ ]))

@@ -34,7 +34,10 @@ returns-2 c =
     let long : length (marks .result) ≡ 256 = search needs in
     quiet-outcome (decode (b .args .s .now)) (setOf (b .args .agents)) (setOf (b .args .inputs)) (setOf (marks .last .1 .1 .0)) (marks .result) (marks .ensures)
     (sym quiet ∙ end .ensures .aborted) (c .before .if2 .status) (end .result .count) (end .result .awake) long
-    (⊎-elim (λ w. w .1 ∙ ap (λ x. cond x 1 0) (sym (w .0 .taken))) (λ w. w .1 ∙ ap (λ x. cond x 1 0) (sym (w .0 .left))) (c .before .if2 .came))
+    (⊎-elim
+    (λ w. let one : c .before .if2 .status ≡ 1 = w .1 in one ∙ ap (λ x. cond x 1 0) (sym (w .0 .taken)))
+    (λ w. let none : c .before .if2 .status ≡ 0 = w .1 in none ∙ ap (λ x. cond x 1 0) (sym (w .0 .left)))
+    (c .before .if2 .came))
     (end .ensures .count quiet) (end .ensures .awake quiet)
 
 pub play-spec : {M : Type 1} → statement M

@@ -4,9 +4,9 @@ use Rattle.verdicts.specs.Verdicts.{numberOf, valueOf}
 use Rattle.scorefile.specs.Check.{verdict}
 use Rattle.verdicts.proofs.Verdicts.{number-few}
 use Rattle.scorefile.proofs.Values.{verdict-small}
-use Rattle.score.specs.Answer.{packed}
-use Rattle.score.specs.CheckCall.{ofVerdict}
-use Rattle.score.proofs.CheckCall.{reply-fits}
+use Rattle.answer.specs.Answer.{packed}
+use Rattle.answer.specs.Replies.{ofVerdict}
+use Rattle.answer.proofs.Replies.{reply-fits}
 use borrow.Author.Needs.{needs}
 use Rattle.score.proofs.score_check.Statement.{statement}
 use Rattle.score.proofs.score_check.Tie as tie

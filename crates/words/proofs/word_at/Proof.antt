@@ -1,7 +1,10 @@
 -- `words::word_at`: the four bytes of the word are within the slice.
-use mathlib.Core.Path.{_∙_, sym}
+use mathlib.Core.Path.{_≡_, _∙_, sym}
+use Prim.Native.Nat.{_+_, _*_}
 use borrow.Author.Needs.{needs}
 use native.Mathlib.Omega.{arith}
+use lib.ListN.{getD}
+use Rattle.words.specs.Word.{joined}
 use Rattle.words.proofs.Words.{words-room, word-joined}
 use Rattle.words.proofs.word_at.Statement.{statement}
 use Rattle.words.proofs.word_at.Tie as tie
@@ -37,7 +40,8 @@ returns : tie.Need-returns
 returns c =
     let s = c .before .before .before .before .before .before .args .s .now in
     let i = c .before .before .before .before .before .before .args .i in
-    c .join .ensures ∙ sym (word-joined s i (c .before .before .before .before .before .before .pre))
+    let bytes : c .join .result ≡ joined (getD s (i * 4) 0) (getD s (i * 4 + 1) 0) (getD s (i * 4 + 2) 0) (getD s (i * 4 + 3) 0) = c .join .ensures in
+    bytes ∙ sym (word-joined s i (c .before .before .before .before .before .before .pre))
 
 pub word-at-spec : {M : Type 1} → statement M
 word-at-spec =

@@ -1,0 +1,33 @@
+-- What each call found, as an answer by the table's numbers.
+--     ofVerdict      a verdict on a score
+--     ofReply        the reply of an instant call
+--     ofRunReply     the reply of a run or a journal check
+use Rattle.verdicts.specs.declared.Verdict.{Verdict}
+use Rattle.verdicts.specs.Verdicts.{numberOf, valueOf}
+use Rattle.instant.specs.declared.Reply.{Reply as InstantReply}
+use Rattle.instant.specs.declared.Reply.the-variants as instants
+use Rattle.history.specs.declared.Reply.{Reply as RunReply}
+use Rattle.history.specs.declared.Reply.the-variants as runs
+use Rattle.answer.specs.Answer.{Reply, reply, accepted, refused, settled}
+
+abbrev pub ofVerdict : Verdict → Reply
+ofVerdict v = reply (numberOf v) (valueOf v)
+
+abbrev pub ofReply : InstantReply → Reply
+ofReply (instants.Score v) = ofVerdict v
+ofReply instants.Lengths = refused 8 0
+ofReply instants.State = refused 9 0
+ofReply instants.Input = refused 10 0
+ofReply instants.Next = refused 11 0
+ofReply (instants.Settled status count) = settled status count
+
+abbrev pub ofRunReply : RunReply → Reply
+ofRunReply (runs.Score v) = ofVerdict v
+ofRunReply runs.Lengths = refused 8 0
+ofRunReply runs.State = refused 9 0
+ofRunReply runs.Unlawful = refused 11 0
+ofRunReply runs.Bytes = refused 12 0
+ofRunReply (runs.Word k) = refused 13 k
+ofRunReply (runs.Differs k) = refused 14 k
+ofRunReply (runs.Full n) = refused 15 n
+ofRunReply (runs.Accepted n) = accepted n
