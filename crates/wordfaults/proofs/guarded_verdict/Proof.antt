@@ -13,13 +13,13 @@ use Rattle.wordfaults.proofs.guarded_verdict.Statement.{statement}
 use Rattle.wordfaults.proofs.guarded_verdict.Tie as tie
 
 unknown-token : (h : Sizes) (i t b : ℕ) → h .tokens ≤ t → Token (2 + i) ≡ agentVerdict h i (Whole (When t b))
-unknown-token h i t b le = rw le-leb
+unknown-token h i t b le = rw (le-leb (h .tokens) t le)
 
 not-below : (h : Sizes) (i t b : ℕ) → t < h .tokens → i ≤ b → Reference (2 + i) ≡ agentVerdict h i (Whole (When t b))
-not-below h i t b lt le = rw (lt-leb, le-leb)
+not-below h i t b lt le = rw (lt-leb (h .tokens) t lt, le-leb)
 
 nothing-wrong : (h : Sizes) (i t b : ℕ) → t < h .tokens → b < i → Accepted ≡ agentVerdict h i (Whole (When t b))
-nothing-wrong h i t b lt below = rw (lt-leb, lt-leb)
+nothing-wrong h i t b lt below = rw (lt-leb (h .tokens) t lt, lt-leb)
 
 add-t6 : tie.Need-add-t6
 add-t6 c = search needs
