@@ -28,7 +28,7 @@ use Rattle.words.specs.Map.{inMap}
 use Rattle.lent.specs.Lengths.{stateBytes, mapBytes}
 use Rattle.bits.specs.Bits.{bitAt, bitsValue, bytesOf}
 use Rattle.lent.specs.Maps.{tokensIn, mapOf}
-use Rattle.lent.specs.States.{runningWord, abortedWord, agentsIn, stateFault, stateOf, agentWords, asBytes, LawfulState, SameState}
+use Rattle.lent.specs.States.{runningWord, abortedWord, agentsIn, stateFault, stateOf, agentWords, stateWords, asBytes, LawfulState, SameState}
 use Rattle.lent.proofs.Agents.{awakeIn, agents-within}
 use Rattle.bits.proofs.Bits.{bitsValue-below, bitsValue-same, bitsValue-bit}
 use Rattle.bits.proofs.Bytes.{bytesOf-length, map-same}
@@ -102,8 +102,8 @@ module _ (first : ℕ) (fits : first < 2 ^ 32) (l : List ℕ) where
 
 pub asBytes-length : (st : State) → length (asBytes st) ≡ stateBytes
 unfolding asBytes
-asBytes-length (running l) = bytesOf-length (runningWord ∷ agentWords l) ∙ ap (λ n. 4 * suc n) (agentWords-length l)
-asBytes-length aborted = bytesOf-length (abortedWord ∷ agentWords []) ∙ ap (λ n. 4 * suc n) (agentWords-length [])
+asBytes-length (running l) = bytesOf-length (stateWords (running l)) ∙ ap (λ n. 4 * suc n) (agentWords-length l)
+asBytes-length aborted = bytesOf-length (stateWords aborted) ∙ ap (λ n. 4 * suc n) (agentWords-length [])
 
 pub asBytes-same : (a b : State) → SameState a b → asBytes a ≡ asBytes b
 unfolding asBytes SameState
@@ -112,10 +112,14 @@ asBytes-same (running l) aborted e = absurd e
 asBytes-same aborted (running k) e = absurd e
 asBytes-same aborted aborted e = refl
 
+aborted-first : wordAt (asBytes aborted) 0 ≡ abortedWord
+unfolding asBytes
+aborted-first = first-word abortedWord (omega arith) []
+
 pub state-round : (st : State) → LawfulState 1024 st → SameState (stateOf (asBytes st)) st
 unfolding asBytes stateOf LawfulState SameState
 state-round (running l) h = rw (first-word runningWord (omega arith) l) (agents-round runningWord (omega arith) l h)
-state-round aborted h = rw (first-word abortedWord (omega arith) []) tt
+state-round aborted h = rw aborted-first tt
 
 -- ---- number 9
 

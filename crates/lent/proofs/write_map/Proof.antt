@@ -1,14 +1,20 @@
 -- `lent::write_map`: the bytes below k are written.
-use mathlib.Core.Bool.{false}
+use mathlib.Core.Bool.{Bool}
+use Rattle.bits.specs.Bits.{bitsValue}
 use Rattle.bits.proofs.Bits.{bitsValue-below}
 use mathlib.Core.Path.{_≡_, ap, _∙_}
-use Prim.Native.Nat.{_-_, _≤_, _+_, _*_}
+use Prim.Native.Nat.{ℕ, _-_, _<_, _≤_}
 use borrow.Author.Needs.{needs}
 use native.Mathlib.Omega.{arith}
-use lib.ListN.{length, length-set, getD}
+use lib.ListN.{length, length-set}
+use lib.Pow.{pow-mono}
 use Rattle.lent.proofs.Gathered.{mapWritten, map-none, map-more, map-all}
 use Rattle.lent.proofs.write_map.Statement.{statement}
 use Rattle.lent.proofs.write_map.Tie as tie
+
+-- a number of at most 8 bits is a byte
+few-bits : (n w : ℕ) (f : ℕ → Bool) → w ≡ bitsValue f n → n ≤ 8 → w < 256
+few-bits n w f e few = omega (arith, bitsValue-below f n, e, pow-mono few)
 
 abbrev Inv-loop : tie.InvT-loop
 Inv-loop map₀ tokens set k₀ map k = (k ≤ 32) × (length map ≡ length map₀) × (length set ≡ 256) × (map ≡ mapWritten set k map₀)
@@ -29,8 +35,7 @@ gather-requires : tie.Need-gather-requires Inv-loop μ-loop
 gather-requires c κs = (search needs, (omega arith, c .before .before .before .before .pre .1))
 
 cast-map : tie.Need-cast-map Inv-loop μ-loop
-cast-map c = let h = bitsValue-below (λ j. getD (c .before .before .before .before .before .args .t3) (8 * c .before .before .before .loop .k + j) false) 8 in
-    omega (arith, c .gather .ensures)
+cast-map c = omega (arith, few-bits _ _ _ (c .gather .ensures) (omega arith))
 
 slice-write-map : tie.Need-slice-write-map Inv-loop μ-loop
 slice-write-map c = search needs
