@@ -2,6 +2,7 @@
 --     calls-known, roots-below     of a score whose words are as their places ask: its calls name its procedures, its roots its agents
 --     call-here           a procedure whose root's set is not 0 calls one unguarded
 --     calls-none          where all those sets are 0, none does
+--     none-circular       and then no procedure lies on a circle
 --     marked-circular     row p marks p exactly if unguarded calls lead from p back to itself
 --     circle-here         the lowest circle from p on is p, if p lies on one
 --     circle-later        else it is the lowest from p + 1 on
@@ -18,12 +19,13 @@ use native.Mathlib.Omega.{arith}
 use native.Mathlib.Numerals.{add-one}
 use lib.ListN.{length, getD}
 use Rattle.tcc.specs.Score.{Score, rootOf}
-use Rattle.tcc.specs.Unguarded.{Leads, Reaches, UnguardedCall, circular, LowestCircular, one as one-call, more as more-calls}
-use Rattle.tcc.proofs.Unguarded.{CallsKnown, leads-known, circular-exact}
+use Rattle.tcc.specs.Unguarded.{Leads, Reaches, circular, one as one-call, more as more-calls}
+use Rattle.tcc.proofs.Unguarded.{CallsKnown, leads-known, circular-exact, call-free}
 use Rattle.verdicts.specs.declared.Verdict.{Verdict}
 use Rattle.verdicts.specs.declared.Verdict.the-variants.{Accepted, Circle}
 use Rattle.verdicts.specs.Verdicts.{numberOf}
 use Rattle.circles.specs.Circles.{circleFrom}
+use Rattle.circles.specs.Lowest.{UnguardedCall, LowestCircular}
 use Rattle.calltable.specs.Calls.{called, Direct, Linked, one, more, Closed, inSet, Gathered}
 use Rattle.format.specs.Decode.{sizes, decode}
 use Rattle.format.proofs.Decode.{decode-roots}
@@ -55,6 +57,13 @@ module _ (sc : Score) (n : ℕ) (sets : List ℕ) (gathered : Gathered sc n sets
       let root = rootOf sc (call .caller) in
       let held : inSet (getD sets root 0) q ≡ true = gathered .exact root q (rooted (call .caller) (call .known)) (omega (arith, leads-known known (call .leads))) .1 (call .leads) in
       false≢true (sym (inSet-none q) ∙ ap (λ x. inSet x q) (sym (none (call .caller) (call .known))) ∙ held)
+
+pub none-circular : (sc : Score) → CallsKnown sc → (UnguardedCall sc → ⊥) → LowestCircular sc (length (sc .roots))
+none-circular sc known none = record {
+  within = omega arith;
+  below = λ p lt. call-free sc known p (λ q l. none (record { caller = p; known = lt; callee = q; leads = l }));
+  here = λ lt. absurd (omega arith);
+}
 
 module _ (sc : Score) (n : ℕ) (count : length (sc .roots) ≡ n) (few : n ≤ 64) (known : CallsKnown sc) (m : List (List Bool)) (direct : Direct sc m) where
   led : (p q : ℕ) → p < n → q < 64 → called m p q ≡ true → Leads sc (rootOf sc p) q

@@ -9,8 +9,8 @@
 --     first-met, second-met, body-met, call-met, root-met     what a set of what is met holds, closed under the rules
 --     met-comes, comes-met             a procedure is met from an agent if and only if the agent comes to it
 --     circular-exact                   `circular` says whether a procedure reaches itself
---     reaches-calls                    whoever reaches a procedure makes an unguarded call
---     call-free                        where no procedure calls one unguarded, none lies on a circle
+--     reaches-call                     whoever reaches a procedure calls one unguarded
+--     call-free                        a procedure that calls none unguarded lies on no circle
 use mathlib.Core.Path.{_≡_, refl, sym, ap, subst}
 use mathlib.Core.Bool.{Bool, true, false}
 use mathlib.Core.List.{List, [], _∷_, map, List·Memᴰ, List·Memᴰ·head, List·Memᴰ·tail, List·Memᴰ·append-cases, Memᴰ·append-left, Memᴰ·append-right}
@@ -22,7 +22,7 @@ use borrow.Author.Tests.{eqb-true, eq-eqb}
 use Rattle.tcc.specs.Sets.{below}
 use Rattle.tcc.specs.Closure.{Rule}
 use Rattle.tcc.specs.Score.{Score, agentAt, rootOf, proceduresOf}
-use Rattle.tcc.specs.Unguarded.{Leads, calls, by-first, by-second, by-body, Reaches, one, more, UnguardedCall, Met, agent, procedure, sameMet, from, ways, waysFrom, wayRules, metFrom, circular, LowestCircular}
+use Rattle.tcc.specs.Unguarded.{Leads, calls, by-first, by-second, by-body, Reaches, one, more, Met, agent, procedure, sameMet, from, ways, waysFrom, wayRules, metFrom, circular}
 use Rattle.tcc.specs.declared.Agent.{Agent}
 use Rattle.tcc.specs.declared.Agent.the-variants.{Skip, Abort, Tell, Parallel, When, Next, Unless, Call}
 use Rattle.tcc.proofs.Sets.{Within, on-cons, on-append, on-map, map-member, lt-below, true-is-false}
@@ -65,9 +65,9 @@ module _ (sc : Score) (i : ℕ) where
   pub comes-call : {p : ℕ} → agentAt sc i ≡ Call p → Comes sc i p
   comes-call e = directly (calls e)
 
-pub reaches-calls : {sc : Score} {p q : ℕ} → p < length (sc .roots) → Reaches sc p q → UnguardedCall sc
-reaches-calls {p = p} lt (one {q = q} l) = record { caller = p; known = lt; callee = q; leads = l }
-reaches-calls {p = p} lt (more {q = q} l r) = record { caller = p; known = lt; callee = q; leads = l }
+pub reaches-call : {sc : Score} {p q : ℕ} → Reaches sc p q → (r : ℕ) × Leads sc (rootOf sc p) r
+reaches-call (one {q = q} l) = (q, l)
+reaches-call (more {q = q} l r) = (q, l)
 
 -- every procedure that an agent calls is known
 abbrev pub CallsKnown : Score → Type 0
@@ -170,14 +170,9 @@ module _ (sc : Score) (known : CallsKnown sc) where
   unfolding circular
   circular-exact p = (λ e. comes-reaches sc (met-comes sc (rootOf sc p) (any-same sameMet met-decides (procedure p) (metFrom sc (rootOf sc p)) e)), λ r. same-any sameMet met-decides (comes-met (reaches-comes r)))
 
-  pub call-free : (UnguardedCall sc → ⊥) → LowestCircular sc (length (sc .roots))
-  call-free none =
-      record {
-        within = omega arith;
-        below = λ p lt. not-circular p lt (circular sc p) refl;
-        here = λ lt. absurd (omega arith);
-      }
+  pub call-free : (p : ℕ) → ((q : ℕ) → Leads sc (rootOf sc p) q → ⊥) → circular sc p ≡ false
+  call-free p none = go (circular sc p) refl
     where
-      not-circular : (p : ℕ) → p < length (sc .roots) → (b : Bool) → circular sc p ≡ b → b ≡ false
-      not-circular p lt true e = absurd (none (reaches-calls lt (circular-exact p .0 e)))
-      not-circular p lt false e = refl
+      go : (b : Bool) → circular sc p ≡ b → circular sc p ≡ false
+      go true e = let call = reaches-call (circular-exact p .0 e) in absurd (none (call .0) (call .1))
+      go false e = e

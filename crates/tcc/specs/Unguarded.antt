@@ -1,13 +1,11 @@
 -- "A procedure calls another unguarded if its root leads to the call through parallel and when alone."
---     Leads              an agent leads to a call of a procedure through parallel and when alone
---     Reaches            one or more unguarded calls lead from a procedure to a procedure
---     UnguardedCall      some procedure calls one unguarded
---     circular           whether unguarded calls lead from a procedure back to itself, computed
---     LowestCircular     the lowest procedure from which they do, or the number of procedures where there is none
+--     Leads        an agent leads to a call of a procedure through parallel and when alone
+--     Reaches      one or more unguarded calls lead from a procedure to a procedure
+--     circular     whether unguarded calls lead from a procedure back to itself, computed
 use mathlib.Core.Path.{_≡_}
-use mathlib.Core.Bool.{Bool, true, false}
+use mathlib.Core.Bool.{Bool, false}
 use mathlib.Core.List.{List, [], _∷_, _++_, map}
-use Prim.Native.Nat.{ℕ, zero, suc, _<_, _≤_}
+use Prim.Native.Nat.{ℕ, zero, suc}
 use lib.ListN.{length}
 use lib.Dec.{eqb}
 use Rattle.tcc.specs.Sets.{any, below}
@@ -25,12 +23,6 @@ pub data Leads (sc : Score) : ℕ → ℕ → Type 0 where
 pub data Reaches (sc : Score) : ℕ → ℕ → Type 0 where
   one : {p q : ℕ} → Leads sc (rootOf sc p) q → Reaches sc p q
   more : {p q r : ℕ} → Leads sc (rootOf sc p) q → Reaches sc q r → Reaches sc p r
-
-pub record UnguardedCall (sc : Score) : Type 0 where
-  pub caller : ℕ
-  pub known : caller < length (sc .roots)
-  pub callee : ℕ
-  pub leads : Leads sc (rootOf sc caller) callee
 
 -- What is met on the way: an agent, or a procedure that was called.
 pub data Met : Type 0 where
@@ -70,8 +62,3 @@ metFrom sc i = close sameMet (wayRules sc) (agent i ∷ [])
 
 unfoldable pub circular : Score → ℕ → Bool
 circular sc p = any (sameMet (procedure p)) (metFrom sc (rootOf sc p))
-
-pub record LowestCircular (sc : Score) (p : ℕ) : Type 0 where
-  pub within : p ≤ length (sc .roots)
-  pub below : (j : ℕ) → j < p → circular sc j ≡ false
-  pub here : p < length (sc .roots) → circular sc p ≡ true

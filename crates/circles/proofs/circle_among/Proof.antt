@@ -5,11 +5,10 @@ use borrow.Author.Needs.{needs}
 use borrow.Author.Tests.{not-true}
 use native.Mathlib.Omega.{arith}
 use lib.ListN.{length}
-use Rattle.tcc.specs.Unguarded.{LowestCircular}
-use Rattle.tcc.proofs.Unguarded.{call-free}
 use Rattle.format.specs.Decode.{decode}
 use Rattle.format.proofs.Decode.{decode-roots}
-use Rattle.circles.proofs.Circle.{calls-known}
+use Rattle.circles.specs.Lowest.{LowestCircular}
+use Rattle.circles.proofs.Circle.{calls-known, none-circular}
 use Rattle.circles.proofs.circle_among.Statement.{statement}
 use Rattle.circles.proofs.circle_among.Tie as tie
 
@@ -30,7 +29,7 @@ returns c =
     let b = c .before .before .before .before .before .before .before .before .before in
     let s = b .args .s .now in
     let n : length (decode s .roots) ≡ b .args .head .procedures = decode-roots s (b .pre .1 .0 .enough) ∙ sym (ap (λ h. h .procedures) (b .pre .0)) in
-    subst (LowestCircular (decode s)) n (call-free (decode s) (calls-known s (b .pre .1 .0)) (λ call. false≢true (sym (not-true _ (c .if1 .taken)) ∙ c .before .calls-any .ensures .1 call)))
+    subst (LowestCircular (decode s)) n (none-circular (decode s) (calls-known s (b .pre .1 .0)) (λ call. false≢true (sym (not-true _ (c .if1 .taken)) ∙ c .before .calls-any .ensures .1 call)))
 
 circle-in-rows-requires : tie.Need-circle-in-rows-requires
 circle-in-rows-requires c κs =
