@@ -12,7 +12,7 @@ use lib.ListN.{length, drop}
 use Rattle.tcc.specs.Lawful.{Lawful}
 use Rattle.tcc.specs.Unguarded.{Reaches, circular}
 use Rattle.tcc.proofs.Sets.{Within}
-use Rattle.tcc.proofs.Unguarded.{CallsKnown, circular-exact}
+use Rattle.tcc.proofs.Unguarded.{circular-exact}
 use Rattle.words.specs.Word.{field, words, wordAt}
 use Rattle.words.proofs.Words.{words-length}
 use Rattle.verdicts.specs.declared.Verdict.the-variants.{Accepted}
@@ -22,8 +22,8 @@ use Rattle.faults.specs.Faults.{lengthVerdict, headVerdict, countVerdict, first
 use Rattle.circles.specs.Circles.{circleFrom}
 use Rattle.scorefile.specs.Check.{verdict}
 use Rattle.verdicts.proofs.Verdicts.{both-accepted}
-use Rattle.faults.proofs.Accepted.{length-accepted, count-accepted, tokens-known, parts-lower, procedures-known, roots-known, ports-known, ports-ordered, rules-known}
-use Rattle.circles.proofs.Circle.{circle-free}
+use Rattle.faults.proofs.Accepted.{length-accepted, count-accepted, tokens-known, parts-lower, roots-known, ports-known, ports-ordered, rules-known}
+use Rattle.circles.proofs.Circle.{calls-known, circle-free}
 use Rattle.format.proofs.Decode.{decode-agents, decode-roots, decode-tokens, decode-lowest, decode-highest, decode-rules, on-rules, sizes-few}
 
 -- each test in turn
@@ -62,12 +62,9 @@ module _ (s : List ℕ) (e : verdict s ≡ Accepted) where
   roots-counted : length (decode s .roots) ≡ sizes s .procedures
   roots-counted = decode-roots s (counted .0)
 
-  calls-known : CallsKnown (decode s)
-  calls-known i p m = let h = procedures-known s accepted-faultless i p m in let n = roots-counted in omega arith
-
   uncircled : (p : ℕ) → p < length (decode s .roots) → Reaches (decode s) p p → ⊥
   uncircled p lt r =
-      let t : circular (decode s) p ≡ true = circular-exact (decode s) calls-known p .1 r in
+      let t : circular (decode s) p ≡ true = circular-exact (decode s) (calls-known s accepted-faultless) p .1 r in
       let f : circular (decode s) p ≡ false = rw zero-add at (circle-free (decode s) 0 (length (decode s .roots)) (passed s e .circles-passed) p lt) in
       true≢false (sym t ∙ f)
 
@@ -98,7 +95,7 @@ module _ (s : List ℕ) (e : verdict s ≡ Accepted) where
         ports-known = omega (arith, decode-highest s, ports-known s f);
         tokens-known = λ i n m. omega (arith, tokens-known s f i n m);
         parts-lower = parts-lower s f;
-        procedures-known = calls-known;
+        procedures-known = calls-known s f;
         roots-known = λ n lt. omega (arith, roots-known s f n (omega arith));
         conclusions-known = λ r m. omega (arith, conclusions r m);
         premises-known = λ r n m k. omega (arith, premises r m n k);
