@@ -3,7 +3,7 @@ ghost use lib.ListN.{length};
 ghost use Rattle.tcc.specs.Instant.{instant};
 ghost use Rattle.format.specs.Decode.{sizes, decode};
 ghost use Rattle.store.specs.Flags.{setOf};
-ghost use Rattle.store.specs.Playable.{Playable};
+ghost use Rattle.format.specs.Playable.{Playable};
 ghost use Rattle.engine.specs.Marks.{Passed, Fixed};
 ghost use Rattle.engine.specs.Outcome.{outcomeOf};
 use store::Agents;

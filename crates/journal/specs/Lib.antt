@@ -1,3 +1,4 @@
 pub mod Form
 pub mod Instants
 pub mod History
+pub mod Formed

@@ -3,3 +3,4 @@ pub mod Accepted
 pub mod Circle
 pub mod Values
 pub mod Lawful
+pub mod Stages

@@ -10,14 +10,14 @@ use lib.ListN.{length, getD, replicate}
 use Rattle.tcc.specs.Sets.{any}
 use Rattle.tcc.specs.Instant.{Answer, count, output, answer}
 use Rattle.words.proofs.Words.{words-length}
-use Rattle.format.specs.Format.{sizesOf}
 use Rattle.format.specs.Decode.{sizes, decode}
-use Rattle.format.proofs.Decode.{decode-agents, decode-tokens, sizes-few}
+use Rattle.format.proofs.Decode.{playable-agents, decode-tokens, sizes-few}
 use Rattle.scorefile.specs.Check.{numberOf, verdict}
-use Rattle.scorefile.proofs.Accepted.{accepted-only, none-above}
-use Rattle.scorefile.proofs.Lawful.{accepted-faultless, accepted-lawful}
+use Rattle.scorefile.proofs.Accepted.{none-above}
+use Rattle.scorefile.proofs.Stages.{head-read, by-head}
+use Rattle.scorefile.proofs.Stages as stages
 use Rattle.store.specs.Flags.{setOf, flagsOf}
-use Rattle.store.specs.Playable.{Playable}
+use Rattle.format.specs.Playable.{Playable}
 use Rattle.engine.specs.Outcome.{outcomeOf}
 use Rattle.lent.specs.Bits.{bytesOf}
 use Rattle.lent.specs.Maps.{tokensIn, mapOf}
@@ -36,7 +36,7 @@ abbrev buffers : tie.Start → Lent
 buffers b = lent (b .args .state .now) (b .args .store .now) (b .args .output .now) (b .args .scratch .now)
 
 accepted : (c : tie.Else1) → numberOf (verdict (c .before .before .before .before .before .before .before .before .before .args .score .now)) ≡ 0
-accepted c = sym (c .before .number-of .ensures ∙ ap numberOf (c .before .before .check .ensures)) ∙ c .if1 .left
+accepted c = stages.accepted (c .before .before .before .before .before .before .before .before .before .args .score .now) (c .before .number-of .ensures) (c .before .before .check .ensures) (c .if1 .left)
 
 long : (c : tie.Else2) → lengthFault (c .before .before .before .before .before .before .before .before .before .before .before .args .input .now) (buffers (c .before .before .before .before .before .before .before .before .before .before .before)) ≡ false
 long c = sym (c .before .wrong-length .ensures) ∙ c .if2 .left
@@ -46,18 +46,16 @@ lengths-are : (c : tie.Else2) → Lengths-are (c .before .before .before .before
 lengths-are c = right-lengths (c .before .before .before .before .before .before .before .before .before .before .before .args .input .now) (buffers (c .before .before .before .before .before .before .before .before .before .before .before)) (long c)
 
 playable : (c : tie.Else1) → Playable (c .before .before .before .before .before .before .before .before .before .args .score .now)
-playable c =
-    let s = c .before .before .before .before .before .before .before .before .before .args .score .now in
-    let e = accepted-only (verdict s) (accepted c) in
-    record { whole = accepted-faultless s e .enough; lawful = accepted-lawful s e }
+playable c = stages.playable (c .before .before .before .before .before .before .before .before .before .args .score .now) (accepted c)
 
 sizes-are : (c : tie.After-sizes-of) → c .sizes-of .result ≡ sizes (c .before .before .before .before .before .before .before .before .before .before .before .before .before .args .score .now)
-sizes-are c = c .sizes-of .ensures ∙ ap sizesOf (c .before .word-at .ensures)
+sizes-are c = head-read (c .before .before .before .before .before .before .before .before .before .before .before .before .before .args .score .now) (c .before .word-at .ensures) (c .sizes-of .ensures)
+
+fault-is : (c : tie.After-state-fault) → c .state-fault .result ≡ stateFault (sizes (c .before .before .before .before .before .before .before .before .before .before .before .before .before .before .before .args .score .now) .agents) (c .before .before .before .before .before .before .before .before .before .before .before .before .before .before .before .args .state .now)
+fault-is c = by-head (λ h. stateFault (h .agents) (c .before .before .before .before .before .before .before .before .before .before .before .before .before .before .before .args .state .now)) (sizes-are (c .before .before)) (c .state-fault .ensures)
 
 state-lawful : (c : tie.Else3) → stateFault (sizes (c .before .before .before .before .before .before .before .before .before .before .before .before .before .before .before .before .args .score .now) .agents) (c .before .before .before .before .before .before .before .before .before .before .before .before .before .before .before .before .args .state .now) ≡ false
-state-lawful c =
-    ap (λ h. stateFault (h .agents) (c .before .before .before .before .before .before .before .before .before .before .before .before .before .before .before .before .args .state .now)) (sym (sizes-are (c .before .before .before)))
-    ∙ sym (c .before .state-fault .ensures) ∙ c .if3 .left
+state-lawful c = sym (fault-is (c .before)) ∙ c .if3 .left
 
 inputs-are : (c : tie.After-read-map) → setOf (c .read-map .result) ≡ tokensIn (c .before .before .before .before .before .before .before .before .before .before .before .before .before .before .before .before .before .args .input .now)
 inputs-are c = ap setOf (c .read-map .ensures) ∙ tokens-set (c .before .before .before .before .before .before .before .before .before .before .before .before .before .before .before .before .before .args .input .now)
@@ -87,7 +85,7 @@ inside c =
     let p = playable (c .before .before .before .before .before .before .before .before .before .before .before) in
     let none : tokenFault s (b .args .input .now) ≡ false = sym (token-fault (c .before)) ∙ c .if4 .left in
     answer-inside (decode s) (stateOf (b .args .state .now)) (tokensIn (b .args .input .now)) (p .lawful)
-    (subst⁻¹ (λ n. LawfulState n (stateOf (b .args .state .now))) (decode-agents s (omega (arith, p .whole))) (faultless-lawful (sizes s .agents) (b .args .state .now) (state-lawful (c .before .before .before .before))))
+    (subst⁻¹ (λ n. LawfulState n (stateOf (b .args .state .now))) (playable-agents s p) (faultless-lawful (sizes s .agents) (b .args .state .now) (state-lawful (c .before .before .before .before))))
     (λ t m. omega (arith, decode-tokens s, none-above (sizes s .tokens) (tokensIn (b .args .input .now)) none t m))
 
 check-requires : tie.Need-check-requires
@@ -99,7 +97,7 @@ number-of-requires c κs = search needs
 returns : tie.Need-returns
 returns c =
     let b = c .before .before .before .before .before .before .before .before .before in
-    record { exits = turned (b .args .score .now) (b .args .input .now) (buffers b) (c .before .before .check .result) (c .before .before .check .ensures) (λ z. c .if1 .taken (c .before .number-of .ensures ∙ z)) }
+    record { exits = turned (b .args .score .now) (b .args .input .now) (buffers b) (c .before .number-of .ensures) (c .before .before .check .ensures) (c .if1 .taken) }
 
 wrong-length-requires : tie.Need-wrong-length-requires
 wrong-length-requires c κs = search needs
@@ -124,8 +122,7 @@ same-length c = search needs
 returns-3 : tie.Need-returns-3
 returns-3 c =
     let b = c .before .before .before .before .before .before .before .before .before .before .before .before .before .before .before .before in
-    let f = ap (λ h. stateFault (h .agents) (b .args .state .now)) (sym (sizes-are (c .before .before .before))) ∙ sym (c .before .state-fault .ensures) ∙ c .if3 .taken in
-    record { exits = state (b .args .score .now) (b .args .input .now) (buffers b) (accepted (c .before .before .before .before .before .before .before)) (long (c .before .before .before .before .before)) f }
+    record { exits = state (b .args .score .now) (b .args .input .now) (buffers b) (accepted (c .before .before .before .before .before .before .before)) (long (c .before .before .before .before .before)) (sym (fault-is (c .before)) ∙ c .if3 .taken) }
 
 read-map-requires : tie.Need-read-map-requires
 read-map-requires c κs = lengths-are (c .before .before .before .before .before) .input-long
@@ -168,7 +165,7 @@ returns-5 c =
     let b = c .before .before .before .before .before .before .before .before .before .before .before .before .before .before .before .before .before .before .before .before .before .before .before .before .before .before .before .before .before .before in
     let sc = decode (b .args .score .now) in
     let h = ap (λ x. x .agents) (sizes-are (c .before .before .before .before .before .before .before .before .before .before .before .before .before .before .before .before .before)) in
-    let e = decode-agents (b .args .score .now) (omega (arith, playable (c .before .before .before .before .before .before .before .before .before .before .before .before .before .before .before .before .before .before .before .before .before) .whole)) in
+    let e = playable-agents (b .args .score .now) (playable (c .before .before .before .before .before .before .before .before .before .before .before .before .before .before .before .before .before .before .before .before .before)) in
     let none : any (λ i. leb (c .before .before .before .before .before .before .before .before .before .before .before .before .before .before .before .before .before .sizes-of .result .agents) i) (setOf (c .before .before .before .before .before .before .before .before .answer-in .result .awake)) ≡ false =
     from-none _ _ (λ i le. ap (λ o. getD (o .awake) i false) (outcome-is (c .before .before .before .before .before .before .before .before)) ∙ flags-known 1024 (length (sc .agents)) (answer-of b .awake) (inside (c .before .before .before .before .before .before .before .before .before .before) .agents) i (omega (arith, h, e))) in
     absurd (true≢false (sym (c .if5 .taken) ∙ c .before .any-from2 .ensures ∙ none))
@@ -220,7 +217,7 @@ returns-6 c =
     let i = inside (c .before .before .before .before .before .before .before .before .before .before .before .before .before .before .before .before .before .before .before .before) in
     let p = playable (c .before .before .before .before .before .before .before .before .before .before .before .before .before .before .before .before .before .before .before .before .before .before .before .before .before .before .before .before .before .before .before) in
     let few = sizes-few s in
-    let n = decode-agents s (omega (arith, p .whole)) in
+    let n = playable-agents s p in
     let t = decode-tokens s in
     record {
       exits =
