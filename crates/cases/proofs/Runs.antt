@@ -14,10 +14,9 @@ use Rattle.tcc.specs.Lawful.{Lawful}
 use Rattle.tcc.specs.Instant.{State, answer, after}
 use Rattle.tcc.proofs.Sets.{Within}
 use Rattle.format.specs.Decode.{sizes, decode}
-use Rattle.format.proofs.Decode.{decode-agents, decode-tokens, sizes-few}
+use Rattle.format.proofs.Decode.{playable-agents, decode-tokens, sizes-few}
 use Rattle.scorefile.specs.Check.{numberOf, verdict}
-use Rattle.scorefile.proofs.Accepted.{accepted-only}
-use Rattle.scorefile.proofs.Lawful.{accepted-lawful, accepted-faultless}
+use Rattle.scorefile.proofs.Stages.{playable}
 use Rattle.lent.specs.States.{asBytes, LawfulState}
 use Rattle.lent.proofs.Round.{asBytes-length, lawful-bytes}
 use Rattle.journal.specs.declared.Form.the-variants.{Good}
@@ -25,10 +24,10 @@ use Rattle.journal.specs.Form.{formOf}
 use Rattle.journal.specs.Instants.{inputLists}
 use Rattle.journal.specs.History.{entry, Rising}
 use Rattle.journal.proofs.Forms.{good-inputs}
-use Rattle.history.specs.declared.Stop.the-variants.{Not, Room}
-use Rattle.history.specs.Run.{stopAt, Ran, stopped, unlessStopped, runFrom}
-use Rattle.history.specs.RunCall.{lent, ended, exit}
-use Rattle.history.proofs.Exact.{written-stands, instant-entry, after-bytes, next-lawful, instant-lawful}
+use Rattle.run.specs.declared.Stop.the-variants.{Not, Room}
+use Rattle.run.specs.Run.{stopAt, Ran, stopped, unlessStopped, runFrom}
+use Rattle.run.specs.RunCall.{lent, ended, exit}
+use Rattle.history.proofs.Stands.{written-stands, instant-entry, after-bytes, next-lawful, instant-lawful}
 
 unfoldable pub playOn : Score → State → ℕ → List (List ℕ) → Ran
 playOn sc st room [] = stopped (asBytes st) Not
@@ -39,10 +38,10 @@ playOn sc st room (inputs ∷ more) =
 
 module _ (score : List ℕ) (accepted : numberOf (verdict score) ≡ 0) where
   law : Lawful (decode score)
-  law = accepted-lawful score (accepted-only (verdict score) accepted)
+  law = playable score accepted .lawful
 
   counted : length (decode score .agents) ≡ sizes score .agents
-  counted = let f = accepted-faultless score (accepted-only (verdict score) accepted) in decode-agents score (omega (arith, f .enough))
+  counted = playable-agents score (playable score accepted)
 
   pub run-plays : (lists : List (List ℕ)) → Within (Rising (decode score .tokens)) lists → (st : State) → LawfulState (length (decode score .agents)) st → (room : ℕ) →
       runFrom score (asBytes st) room lists ≡ playOn (decode score) st room lists

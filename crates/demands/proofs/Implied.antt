@@ -29,7 +29,7 @@ use Rattle.lent.proofs.Round.{state-round}
 use Rattle.lent.proofs.SameState.{state-running}
 use Rattle.instant.specs.InstantCall.{Lent}
 use Rattle.journal.specs.Instants.{inputLists}
-use Rattle.history.specs.RunCall.{Lent as RunLent}
+use Rattle.run.specs.RunCall.{Lent as RunLent}
 use Rattle.score.specs.Answer.{numberIn, valueIn}
 use Rattle.score.specs.ScoreInstant.{ScoreInstant}
 use Rattle.score.specs.ScoreRun.{ScoreRun}

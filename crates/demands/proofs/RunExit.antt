@@ -28,11 +28,13 @@ use Rattle.journal.specs.Instants.{inputLists}
 use Rattle.journal.specs.History.{entry, Rising}
 use Rattle.journal.proofs.Forms.{good-inputs}
 use Rattle.journal.proofs.Rising.{rising-below}
-use Rattle.history.specs.declared.Stop.the-variants.{Not, Next, Room}
+use Rattle.run.specs.declared.Stop.the-variants.{Not, Next, Room}
 use Rattle.history.specs.declared.Reply.{Reply}
 use Rattle.history.specs.declared.Reply.the-variants.{Score as Turned, Lengths, State, Bytes as NoWords, Word as Against}
-use Rattle.history.specs.Run.{answerIn, stopAt, Ran, unlessStopped, runFrom}
-use Rattle.history.specs.RunCall.{Lent, Exit, lengthFault, kept, ended, byForm, exit}
+use Rattle.history.specs.AnswerIn.{answerIn}
+use Rattle.history.specs.ByForm.{byForm}
+use Rattle.run.specs.Run.{stopAt, Ran, unlessStopped, runFrom}
+use Rattle.run.specs.RunCall.{Lent, Exit, lengthFault, kept, ended, exit}
 use Rattle.score.specs.Answer.{numberOf}
 use Rattle.score.specs.ScoreRun.{ofRunReply}
 use Rattle.score.proofs.CheckCall.{reply-number}
@@ -86,7 +88,7 @@ module _ (score inputs : List ℕ) (l : Lent) where
       let m = reply-number (check.numberOf v) (check.valueOf v) in
       refuses (Turned v) (λ e. n (sym m ∙ e)) (λ e. omega (arith, number-few v, m)) (λ e. omega (arith, number-few v, m))
 
-  formed : (f : Form) → formOf false (sizes score .tokens) inputs ≡ f → (f ≡ Good → Outcome score inputs l (ended (l .journal) (ranOn score inputs l))) → Outcome score inputs l (byForm f l (ended (l .journal) (ranOn score inputs l)))
+  formed : (f : Form) → formOf false (sizes score .tokens) inputs ≡ f → (f ≡ Good → Outcome score inputs l (ended (l .journal) (ranOn score inputs l))) → Outcome score inputs l (byForm f (kept l) (ended (l .journal) (ranOn score inputs l)))
   formed Good e good = good refl
   formed Bytes e good = refuses NoWords (λ z. omega arith) (λ z. omega arith) (λ z. omega arith)
   formed (Word k) e good = refuses (Against k) (λ z. omega arith) (λ z. omega arith) (λ z. omega arith)

@@ -20,11 +20,12 @@ use Rattle.lent.specs.Bits.{bytesOf}
 use Rattle.lent.specs.States.{asBytes}
 use Rattle.journal.specs.Instants.{inputLists}
 use Rattle.journal.specs.History.{entry}
-use Rattle.history.specs.declared.Stop.{Stop}
-use Rattle.history.specs.declared.Stop.the-variants.{Not, Next, Room}
-use Rattle.history.specs.Run.{answerIn, stopAt, Ran, unlessStopped, runFrom}
-use Rattle.history.specs.RunCall.{ending, ended}
-use Rattle.history.specs.RunCall as run
+use Rattle.run.specs.declared.Stop.{Stop}
+use Rattle.run.specs.declared.Stop.the-variants.{Not, Next, Room}
+use Rattle.history.specs.AnswerIn.{answerIn}
+use Rattle.run.specs.Run.{stopAt, Ran, unlessStopped, runFrom}
+use Rattle.run.specs.RunCall.{ending, ended}
+use Rattle.run.specs.RunCall as run
 use Rattle.score.specs.Answer.{numberOf, valueOf, numberIn, valueIn}
 use Rattle.score.specs.ScoreRun.{ofRunReply, ScoreRun}
 use Rattle.score.proofs.ScoreRun.{read}

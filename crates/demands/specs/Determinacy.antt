@@ -32,7 +32,7 @@ use Rattle.lent.specs.States.{agentsIn, stateOf}
 use Rattle.journal.specs.Instants.{inputLists}
 use Rattle.journal.specs.History.{instantWords}
 use Rattle.instant.specs.InstantCall.{Lent}
-use Rattle.history.specs.RunCall.{Lent as RunLent}
+use Rattle.run.specs.RunCall.{Lent as RunLent}
 use Rattle.score.specs.Answer.{numberIn}
 use Rattle.demands.specs.Calls.{Call, instant, run, InTurn, Answered, written, Plays, Answers}
 

@@ -17,7 +17,7 @@ use Rattle.lent.specs.States.{asBytes}
 use Rattle.lent.specs.Lengths.{scratchBytes}
 use Rattle.journal.specs.Instants.{inputLists}
 use Rattle.journal.specs.History.{history, IsHistory}
-use Rattle.history.specs.RunCall.{Lent}
+use Rattle.run.specs.RunCall.{Lent}
 use Rattle.score.specs.Answer.{numberIn, valueIn}
 use Rattle.score.specs.ScoreRun.{ScoreRun}
 use Rattle.score.specs.ScoreJournalCheck.{ScoreJournalCheck}

@@ -15,7 +15,7 @@ use Rattle.words.specs.Word.{words}
 use Rattle.format.specs.Decode.{decode}
 use Rattle.lent.specs.States.{asBytes}
 use Rattle.lent.specs.Lengths.{noScratch}
-use Rattle.history.specs.RunCall.{Lent, lent}
+use Rattle.run.specs.RunCall.{Lent, lent}
 use Rattle.score.specs.Answer.{numberIn}
 use Rattle.score.specs.ScoreRun.{ScoreRun}
 use Rattle.demands.specs.Calls.{written}

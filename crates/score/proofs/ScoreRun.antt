@@ -15,8 +15,9 @@ use Rattle.scorefile.specs.Check.{verdict}
 use Rattle.scorefile.specs.Check as check
 use Rattle.scorefile.proofs.Values.{verdict-small, number-few}
 use Rattle.history.specs.declared.Reply.{Reply as Replied}
-use Rattle.history.specs.RunCall.{Lent, Exit, exit, RunCall}
-use Rattle.history.proofs.Replies.{Proper, turned, lengths, no-state, unlawful, bytes, word, differs, full, accepted, run-proper}
+use Rattle.run.specs.RunCall.{Lent, Exit, exit, RunCall}
+use Rattle.history.proofs.Replies.{Proper, turned, lengths, no-state, unlawful, bytes, word, differs, full, accepted}
+use Rattle.run.proofs.Replies.{run-proper}
 use Rattle.score.specs.Answer.{Fits, packed, Reads}
 use Rattle.score.specs.ScoreRun.{ofRunReply, ScoreRun, OneExit}
 use Rattle.score.specs.Slice.{Slice}

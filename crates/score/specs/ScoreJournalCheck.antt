@@ -5,7 +5,7 @@
 use mathlib.Core.Path.{_≡_}
 use mathlib.Core.List.{List}
 use Prim.Native.Nat.{ℕ}
-use Rattle.history.specs.JournalCheckCall.{exit}
+use Rattle.journalcheck.specs.JournalCheckCall.{exit}
 use Rattle.score.specs.Answer.{packed}
 use Rattle.score.specs.ScoreRun.{ofRunReply}
 use Rattle.score.specs.Slice.{Slice}

@@ -8,7 +8,7 @@ use mathlib.Core.List.{List}
 use Prim.Native.Nat.{ℕ}
 use Rattle.history.specs.declared.Reply.{Reply as Replied}
 use Rattle.history.specs.declared.Reply.the-variants.{Score as Turned, Lengths, State, Unlawful, Bytes, Word, Differs, Full, Accepted}
-use Rattle.history.specs.RunCall.{Lent, exit}
+use Rattle.run.specs.RunCall.{Lent, exit}
 use Rattle.score.specs.Answer.{Reply, accepted, refused, packed}
 use Rattle.score.specs.CheckCall.{ofVerdict}
 use Rattle.score.specs.Slice.{Slice}

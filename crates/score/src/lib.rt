@@ -1,7 +1,7 @@
 ghost use mathlib.Core.Path.{_≡_};
 ghost use Prim.Native.Nat.{_<_, _≤_, _^_};
 ghost use Rattle.instant.specs.InstantCall.{lent};
-ghost use Rattle.history.specs.RunCall.{lent as lentToRun};
+ghost use Rattle.run.specs.RunCall.{lent as lentToRun};
 ghost use Rattle.score.specs.Answer.{refused, settled, packed, Fits};
 ghost use Rattle.score.specs.CheckCall.{ofVerdict, CheckCall};
 ghost use Rattle.score.specs.ScoreInstant.{ofReply, ScoreInstant};
@@ -44,7 +44,7 @@ pub extern "C" fn score_run(
 ) -> u64
     ensures { λ r. ⌜ ScoreRun (now (score .entry)) (now (inputs .entry)) (lentToRun (now (state .entry)) (now (journal .entry)) (now (scratch .entry))) (lentToRun (now (state .exit)) (now (journal .exit)) (now (scratch .exit))) r ⌝ }
 {
-    of_run_reply(history::run(score, state, inputs, journal, scratch))
+    of_run_reply(run::call(score, state, inputs, journal, scratch))
 }
 
 // Checks a journal from the start state.
@@ -52,7 +52,7 @@ pub extern "C" fn score_run(
 pub extern "C" fn score_journal_check(score: &[u8], journal: &[u8], scratch: &mut [u8]) -> u64
     ensures { λ r. ⌜ ScoreJournalCheck (now (score .entry)) (now (journal .entry)) (now (scratch .entry)) (now (scratch .exit)) r ⌝ }
 {
-    of_run_reply(history::journal_check(score, journal, scratch))
+    of_run_reply(journalcheck::call(score, journal, scratch))
 }
 
 // A verdict as an answer.

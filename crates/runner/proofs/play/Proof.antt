@@ -1,5 +1,5 @@
 -- `play`: the run from the start state.
-use Rattle.history.specs.RunCall.{lent}
+use Rattle.run.specs.RunCall.{lent}
 use Rattle.runner.proofs.Played.{played}
 use borrow.Author.Needs.{needs}
 use Rattle.runner.proofs.play.Statement.{statement}

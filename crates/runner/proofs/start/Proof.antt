@@ -1,9 +1,8 @@
 -- `start`: the state of an accepted score.
-use mathlib.Core.Path.{refl, sym, ap, _∙_}
+use mathlib.Core.Path.{refl, ap, _∙_}
 use borrow.Author.Needs.{needs}
-use Rattle.scorefile.specs.Check.{numberOf, verdict}
-use Rattle.scorefile.proofs.Accepted.{accepted-only}
-use Rattle.scorefile.proofs.Lawful.{accepted-faultless, accepted-lawful}
+use Rattle.scorefile.specs.Check.{numberOf}
+use Rattle.scorefile.proofs.Stages.{accepted, playable}
 use Rattle.runner.proofs.start.Statement.{statement}
 use Rattle.runner.proofs.start.Tie as tie
 
@@ -19,8 +18,7 @@ slice-aggregate-write-start c = search needs
 write-start-requires : tie.Need-write-start-requires
 write-start-requires c κs =
     let s = c .before .before .before .before .before .args .score .now in
-    let e = accepted-only (verdict s) (sym (c .before .before .number-of .ensures ∙ ap numberOf (c .before .before .before .check .ensures)) ∙ c .before .if1 .taken) in
-    (record { whole = accepted-faultless s e .enough; lawful = accepted-lawful s e }, refl)
+    (playable s (accepted s (c .before .before .number-of .ensures) (c .before .before .before .check .ensures) (c .before .if1 .taken)), refl)
 
 returns : tie.Need-returns
 returns c = search needs

@@ -1,0 +1,5 @@
+pub mod Took
+pub mod Runs
+pub mod RunExits
+pub mod Replies
+pub mod Exact
