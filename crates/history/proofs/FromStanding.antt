@@ -1,14 +1,12 @@
 -- An instant from where a score stands, by what its parts return.
---     status-three     the statuses of an outcome
 --     told-set, told-known
 --                      flags read from rising tokens are those tokens, and none from T on
 --     inside           what the answer names is the score's
---     fault-so         the test of number 11, by flags and by bytes
---     stands-so        where the score stands after it is what the bytes of its next state stand for
---     lawful-so        and it is a lawful state
+--     stepped          what the parts return is the instant
+--     status-few       its status is 0, 1 or 2
 --     outputs-known    no output is flagged from T on
---     words-are        the words of the instant, by flags
-use mathlib.Core.Path.{_≡_, ap, subst⁻¹, _∙_}
+--     words-are        its words are those of the definition
+use mathlib.Core.Path.{_≡_, ap, ap₂, subst⁻¹, _∙_}
 use mathlib.Core.Bool.{Bool, false, not}
 use mathlib.Core.List.{List, List·Memᴰ}
 use Prim.Native.Nat.{ℕ, _<_, _≤_}
@@ -27,19 +25,17 @@ use Rattle.store.specs.Flags.{setOf, flagsOf}
 use Rattle.store.proofs.Flags.{member-flag}
 use Rattle.engine.specs.declared.Outcome.{Outcome}
 use Rattle.engine.specs.Outcome.{outcomeOf}
-use Rattle.lent.specs.States.{stateFault, stateOf, asBytes, LawfulState}
+use Rattle.lent.specs.States.{stateOf, asBytes, LawfulState}
 use Rattle.instant.specs.declared.Standing.{Standing}
 use Rattle.instant.specs.Standing.{stateIn}
 use Rattle.instant.proofs.Ports.{output-below}
 use Rattle.instant.proofs.Written.{Inside, answer-inside, flags-known}
 use Rattle.journal.specs.History.{instantWords, entry, Rising}
 use Rattle.journal.proofs.Histories.{answer-status}
-use Rattle.journal.proofs.Rising.{rising-below, rising-set}
-use Rattle.history.proofs.Steps.{stands-after, stands-lawful, entry-flags, never-unlawful}
-
-pub status-three : (sc : Score) (st : State) (inputs : List ℕ) (o : Outcome) → o ≡ outcomeOf (answer sc st inputs) → o .status < 3
-unfolding outcomeOf
-status-three sc st inputs o is = let e : o .status ≡ answer sc st inputs .status = ap (λ x. x .status) is in omega (arith, answer-status sc st inputs)
+use Rattle.journal.proofs.Rising.{rising-below, rising-set, output-rising}
+use Rattle.history.specs.declared.Step.{Step}
+use Rattle.history.specs.Stepped.{Stepped}
+use Rattle.history.proofs.Steps.{stands-after, stands-lawful, output-so, never-unlawful}
 
 -- ---- what is told to an instant
 
@@ -76,31 +72,43 @@ module _ (score : List ℕ) (p : Playable score) (st : State) (law : LawfulState
   few = p .lawful .most-agents
 
   module _ (o : Outcome) (is : o ≡ outcomeOf a) where
-    pub fault-so : any (λ i. leb (sizes score .agents) i) (setOf (o .awake)) ≡ stateFault (sizes score .agents) (asBytes (after a))
+    standing-so : (s : Standing) → (s .running ≡ not (eqb (o .status) 2)) × (s .awake ≡ o .awake) → stateIn s ≡ stateOf (asBytes (after a))
     unfolding outcomeOf
-    fault-so = ap (λ x. any (λ i. leb (sizes score .agents) i) (setOf (x .awake))) is ∙ never-unlawful sc a few inside (sizes score .agents) (playable-agents score p)
+    standing-so s e = ap stateIn (at ∙ ap (λ x. record { running = not (eqb (x .status) 2); awake = x .awake }) is) ∙ stands-after sc a few inside
+      where
+        at : s ≡ record { running = not (eqb (o .status) 2); awake = o .awake }
+        at = λ i. record { running = e .0 i; awake = e .1 i }
 
-    module _ (s : Standing) (so : (s .running ≡ not (eqb (o .status) 2)) × (s .awake ≡ o .awake)) where
-      standing-is : s ≡ record { running = not (eqb (o .status) 2); awake = o .awake }
-      standing-is = λ i. record { running = so .0 i; awake = so .1 i }
+    pub stepped : (s : Step) → s .status ≡ o .status → s .out ≡ flagsOf 256 (output sc (o .status) (setOf (o .store))) →
+        s .unlawful ≡ any (λ i. leb (sizes score .agents) i) (setOf (o .awake)) →
+        (s .standing .running ≡ not (eqb (o .status) 2)) × (s .standing .awake ≡ o .awake) →
+        Stepped score a s
+    unfolding outcomeOf
+    stepped s e sends u stands = record {
+      status-is = e ∙ ap (λ x. x .status) is;
+      out-is = sends ∙ ap (λ x. flagsOf 256 (output sc (x .status) (setOf (x .store)))) is ∙ ap (flagsOf 256) (output-so sc a few inside (p .lawful));
+      unlawful-is = u ∙ ap (λ x. any (λ i. leb (sizes score .agents) i) (setOf (x .awake))) is ∙ never-unlawful sc a few inside (sizes score .agents) (playable-agents score p);
+      stands = standing-so (s .standing) stands;
+      lawful = subst⁻¹ (LawfulState (sizes score .agents)) (standing-so (s .standing) stands) (stands-lawful sc a few inside (sizes score .agents) (playable-agents score p));
+    }
 
-      pub stands-so : stateIn s ≡ stateOf (asBytes (after a))
-      unfolding outcomeOf
-      stands-so = ap stateIn (standing-is ∙ ap (λ x. record { running = not (eqb (x .status) 2); awake = x .awake }) is) ∙ stands-after sc a few inside
+-- ---- what such an instant has
 
-      pub lawful-so : LawfulState (sizes score .agents) (stateIn s)
-      lawful-so = subst⁻¹ (LawfulState (sizes score .agents)) stands-so (stands-lawful sc a few inside (sizes score .agents) (playable-agents score p))
+module _ (score : List ℕ) (p : Playable score) (st : State) (inputs : List ℕ) {s : Step} (h : Stepped score (answer (decode score) st inputs) s) where
+  abbrev sends : List ℕ
+  sends = output (decode score) (answer (decode score) st inputs .status) (answer (decode score) st inputs .store)
 
-    module _ (out : List Bool) (sends : out ≡ flagsOf 256 (output sc (o .status) (setOf (o .store)))) where
-      pub outputs-known : (t : ℕ) → sizes score .tokens ≤ t → getD out t false ≡ false
-      outputs-known t le =
-          ap (λ l. getD l t false) sends
-          ∙ flags-known 256 (sc .tokens) (output sc (o .status) (setOf (o .store)))
-          (λ u m. omega (arith, output-below sc (o .status) (setOf (o .store)) (p .lawful .ports-ordered) u m, p .lawful .ports-known)) t (omega (arith, decode-tokens score))
+  pub status-few : s .status < 3
+  status-few = omega (arith, h .status-is, answer-status (decode score) st inputs)
 
-      pub words-are : instantWords (o .status) (setOf told) (setOf out) ≡ entry sc (setOf told) a
-      unfolding outcomeOf
-      words-are =
-          ap (λ l. instantWords (o .status) (setOf told) (setOf l)) sends
-          ∙ ap (λ x. instantWords (x .status) (setOf told) (setOf (flagsOf 256 (output sc (x .status) (setOf (x .store)))))) is
-          ∙ entry-flags sc a few inside (p .lawful) (setOf told)
+  pub outputs-known : (t : ℕ) → sizes score .tokens ≤ t → getD (s .out) t false ≡ false
+  outputs-known t le =
+      ap (λ l. getD l t false) (h .out-is)
+      ∙ flags-known 256 (decode score .tokens) sends
+      (λ u m. omega (arith, output-below (decode score) _ _ (p .lawful .ports-ordered) u m, p .lawful .ports-known)) t (omega (arith, decode-tokens score))
+
+  pub words-are : instantWords (s .status) inputs (setOf (s .out)) ≡ entry (decode score) inputs (answer (decode score) st inputs)
+  words-are =
+      ap₂ (λ x l. instantWords x inputs (setOf l)) (h .status-is) (h .out-is)
+      ∙ ap (instantWords (answer (decode score) st inputs .status) inputs)
+      (rising-set 256 (decode score .tokens) sends (p .lawful .most-tokens) (output-rising (decode score) _ _ (p .lawful .ports-ordered) (p .lawful .ports-known)))

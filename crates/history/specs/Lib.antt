@@ -1,2 +1,3 @@
 pub mod AnswerIn
 pub mod ByForm
+pub mod Stepped

@@ -1,14 +1,19 @@
 ghost use mathlib.Core.Path.{_≡_};
-ghost use lib.ListN.{length};
-ghost use Rattle.tcc.specs.Instant.{startState};
+ghost use mathlib.Core.Bool.{false};
+ghost use Prim.Native.Nat.{ℕ, _≤_};
+ghost use lib.ListN.{length, getD};
+ghost use Rattle.tcc.specs.Instant.{startState, answer};
 ghost use Rattle.format.specs.Decode.{sizes, decode};
 ghost use Rattle.format.specs.Playable.{Playable};
+ghost use Rattle.store.specs.Flags.{setOf};
 ghost use Rattle.lent.specs.Lengths.{stateBytes};
-ghost use Rattle.lent.specs.States.{stateOf, asBytes};
+ghost use Rattle.lent.specs.States.{stateOf, asBytes, LawfulState};
 ghost use Rattle.instant.specs.Standing.{stateIn};
+ghost use Rattle.history.specs.Stepped.{Stepped};
 use format::Sizes;
 use instant::Standing;
 use scorefile::Verdict;
+use store::Tokens;
 
 // What a run or a journal check answers.
 pub enum Reply {
@@ -30,6 +35,39 @@ pub enum Reply {
     Full(usize),
     // The instants written, or read.
     Accepted(usize),
+}
+
+// One instant from where a score stands.
+pub struct Step {
+    pub status: usize,
+    // What goes to the ports.
+    pub out: Tokens,
+    // The next state would not be one of the score's.
+    pub unlawful: bool,
+    // Where the score stands after it.
+    pub standing: Standing,
+}
+
+// Plays one instant from where a score stands.
+pub fn step_from(score: &[u8], head: Sizes, standing: Standing, told: Tokens) -> Step
+    requires { ⌜ head ≡ sizes (now score) ⌝ }
+    requires { ⌜ Playable (now score) ⌝ }
+    requires { ⌜ LawfulState (sizes (now score) .agents) (stateIn standing) ⌝ }
+    requires { ⌜ ((t : ℕ) → sizes (now score) .tokens ≤ t → getD told t false ≡ false) ⌝ }
+    ensures { λ r. ⌜ Stepped (now (score .entry)) (answer (decode (now (score .entry))) (stateIn standing) (setOf told)) r ⌝ }
+{
+    let outcome = instant::answer_from(score, head, standing, told);
+    let awake = outcome.awake;
+    let held = outcome.store;
+    let out = instant::sent(score, held);
+    let unlawful = lent::any_from(&awake, head.agents);
+    let after = instant::standing_after(outcome);
+    Step {
+        status: outcome.status,
+        out,
+        unlawful,
+        standing: after,
+    }
 }
 
 // Where a score stands at the start: the root of procedure 0 is awake.

@@ -89,15 +89,12 @@ fn check_instant(score: &[u8], head: Sizes, standing: Standing, here: &[u8]) -> 
     ensures { λ r. ⌜ Held (now (score .entry)) (answer (decode (now (score .entry))) (stateIn standing) (inputsIn (words (now (here .entry))))) (words (now (here .entry))) r ⌝ }
 {
     let told = journal::tokens_in(here, 13);
-    let outcome = instant::answer_from(score, head, standing, told);
-    let awake = outcome.awake;
-    let held = outcome.store;
-    let out = instant::sent(score, held);
-    let unlawful = lent::any_from(&awake, head.agents);
-    let differs = differs_from(here, outcome.status, &out);
-    let after = instant::standing_after(outcome);
+    let step = history::step_from(score, head, standing, told);
+    let out = step.out;
+    let after = step.standing;
+    let differs = differs_from(here, step.status, &out);
     Checked {
-        unlawful,
+        unlawful: step.unlawful,
         differs,
         standing: after,
     }

@@ -1,65 +1,61 @@
--- One instant of a run, by what its parts return.
+-- One instant of a run: played, and written if it can be.
 --     took             what the parts return is the instant
 --     goes-not, not-goes, not-stopped, took-fits
 --                      whether it is written
-use mathlib.Core.Path.{_≡_, refl, sym, ap, ap₂, _∙_}
-use mathlib.Core.Bool.{Bool, true, false, cond, not}
+use mathlib.Core.Path.{_≡_, refl, sym, ap, ap₂, subst⁻¹, _∙_}
+use mathlib.Core.Bool.{Bool, true, false, cond}
 use mathlib.Core.List.{List, _++_}
 use Prim.Native.Nat.{ℕ, _*_, _≤_}
 use native.Mathlib.Omega.{arith}
 use borrow.Author.Tests.{leb-true}
-use lib.Dec.{eqb, leb}
-use lib.ListN.{length, getD, drop}
-use Rattle.tcc.specs.Sets.{any}
-use Rattle.tcc.specs.Instant.{State, Answer, output, answer, after}
+use lib.Dec.{leb}
+use lib.ListN.{length, drop}
+use Rattle.tcc.specs.Instant.{State, Answer, answer, after}
 use Rattle.tcc.proofs.Sets.{true-is-false}
 use Rattle.format.specs.Decode.{sizes, decode}
 use Rattle.format.specs.Playable.{Playable}
-use Rattle.store.specs.Flags.{setOf, flagsOf}
-use Rattle.engine.specs.declared.Outcome.{Outcome}
-use Rattle.engine.specs.Outcome.{outcomeOf}
+use Rattle.store.specs.Flags.{setOf}
 use Rattle.lent.specs.Bits.{bytesOf}
 use Rattle.lent.specs.States.{stateFault, asBytes, LawfulState}
+use Rattle.instant.specs.Standing.{stateIn}
 use Rattle.journal.specs.History.{instantWords, entry}
-use Rattle.history.proofs.FromStanding.{fault-so, stands-so, lawful-so, words-are}
+use Rattle.history.specs.declared.Step.{Step}
+use Rattle.history.specs.Stepped.{Stepped}
+use Rattle.history.proofs.FromStanding.{words-are}
 use Rattle.run.specs.declared.Stop.{Stop}
 use Rattle.run.specs.declared.Stop.the-variants.{Not, Next, Room}
 use Rattle.run.specs.declared.Taken.{Taken}
 use Rattle.run.specs.Run.{stopBy, goesOn, stopAt}
 use Rattle.run.specs.Advance.{Advanced}
 
-module _ (score : List ℕ) (p : Playable score) (st : State) (law : LawfulState (sizes score .agents) st)
-    (told : List Bool) (known : (t : ℕ) → sizes score .tokens ≤ t → getD told t false ≡ false)
-    (o : Outcome) (out : List Bool) (is : o ≡ outcomeOf (answer (decode score) st (setOf told)))
-    (sends : out ≡ flagsOf 256 (output (decode score) (o .status) (setOf (o .store)))) where
+module _ (score : List ℕ) (p : Playable score) (st : State) (inputs : List ℕ) (s : Step) (is : Stepped score (answer (decode score) st inputs) s) where
   abbrev a : Answer
-  a = answer (decode score) st (setOf told)
+  a = answer (decode score) st inputs
 
   abbrev words : List ℕ
-  words = instantWords (o .status) (setOf told) (setOf out)
+  words = instantWords (s .status) inputs (setOf (s .out))
 
-  are : words ≡ entry (decode score) (setOf told) a
-  are = words-are score p st law told known o is out sends
+  are : words ≡ entry (decode score) inputs a
+  are = words-are score p st inputs is
 
-  pub took : (t : Taken) (before after′ : List ℕ) (unlawful : Bool) →
-      unlawful ≡ any (λ i. leb (sizes score .agents) i) (setOf (o .awake)) →
+  pub took : (t : Taken) (before after′ : List ℕ) →
       t .bytes ≡ 4 * length words →
-      t .stop ≡ stopBy unlawful (t .bytes) (length before) →
-      (t .standing .running ≡ not (eqb (o .status) 2)) × (t .standing .awake ≡ o .awake) →
+      t .stop ≡ stopBy (s .unlawful) (t .bytes) (length before) →
+      t .standing ≡ s .standing →
       (t .stop ≡ Not → after′ ≡ bytesOf words ++ drop (4 * length words) before) →
       ((t .stop ≡ Not → ⊥) → after′ ≡ before) →
-      Advanced score a (entry (decode score) (setOf told) a) before after′ t
+      Advanced score a (entry (decode score) inputs a) before after′ t
   unfolding stopAt
-  took t before after′ unlawful u b s stands w k = record {
-    stop-is = s ∙ ap₂ (λ x y. stopBy x y (length before)) (u ∙ fault-so score p st law told known o is) bytes;
+  took t before after′ b stop stands w k = record {
+    stop-is = stop ∙ ap₂ (λ x y. stopBy x y (length before)) (is .unlawful-is) bytes;
     bytes-are = bytes;
     written = λ q. w q ∙ ap (λ ws. bytesOf ws ++ drop (4 * length ws) before) are;
     kept = k;
-    stands = stands-so score p st law told known o is (t .standing) stands;
-    lawful = lawful-so score p st law told known o is (t .standing) stands;
+    stands = ap stateIn stands ∙ is .stands;
+    lawful = subst⁻¹ (λ x. LawfulState (sizes score .agents) (stateIn x)) stands (is .lawful);
   }
     where
-      bytes : t .bytes ≡ 4 * length (entry (decode score) (setOf told) a)
+      bytes : t .bytes ≡ 4 * length (entry (decode score) inputs a)
       bytes = b ∙ ap (λ ws. 4 * length ws) are
 
 pub goes-not : (stop : Stop) → goesOn stop ≡ true → stop ≡ Not

@@ -176,15 +176,13 @@ fn advance(score: &[u8], head: Sizes, standing: Standing, told: Tokens, journal:
     requires { ⌜ ((t : ℕ) → sizes (now score) .tokens ≤ t → getD told t false ≡ false) ⌝ }
     ensures { λ r. ⌜ Advanced (now (score .entry)) (answer (decode (now (score .entry))) (stateIn standing) (setOf told)) (entry (decode (now (score .entry))) (setOf told) (answer (decode (now (score .entry))) (stateIn standing) (setOf told))) (now (journal .entry)) (now (journal .exit)) r ⌝ }
 {
-    let outcome = instant::answer_from(score, head, standing, told);
-    let awake = outcome.awake;
-    let held = outcome.store;
-    let out = instant::sent(score, held);
+    let step = history::step_from(score, head, standing, told);
+    let out = step.out;
+    let after = step.standing;
     let bytes = journal::size(head.tokens, &told, &out);
-    let stop = stop_by(lent::any_from(&awake, head.agents), bytes, journal.len());
-    let after = instant::standing_after(outcome);
+    let stop = stop_by(step.unlawful, bytes, journal.len());
     if goes_on(stop) {
-        journal::write(journal, outcome.status, head.tokens, &told, &out);
+        journal::write(journal, step.status, head.tokens, &told, &out);
         return Taken {
             stop,
             bytes,
