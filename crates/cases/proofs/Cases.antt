@@ -31,9 +31,9 @@ use Rattle.journal.specs.declared.Form.the-variants.{Good}
 use Rattle.journal.specs.Form.{mayFollow, firstAgainst, formOf}
 use Rattle.journal.specs.Instants.{upTo, instantsIn, tokensOf, inputLists}
 use Rattle.journal.specs.History.{instantWords}
-use Rattle.run.specs.declared.Stop.{Stop}
-use Rattle.run.specs.declared.Stop.the-variants.{Not, Room}
-use Rattle.run.specs.Run.{Ran}
+use Rattle.runlist.specs.declared.Stop.{Stop}
+use Rattle.runlist.specs.declared.Stop.the-variants.{Not, Room}
+use Rattle.runlist.specs.Run.{Ran}
 use Rattle.run.specs.RunCall as run
 use Rattle.cases.specs.Cases.{bytes, turned-down, Holds, sample, state-with, input-with, listed, printed, Marked}
 use Rattle.cases.proofs.Runs.{playOn, exit-plays}

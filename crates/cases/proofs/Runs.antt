@@ -24,8 +24,8 @@ use Rattle.journal.specs.Form.{formOf}
 use Rattle.journal.specs.Instants.{inputLists}
 use Rattle.journal.specs.History.{entry, Rising}
 use Rattle.journal.proofs.Forms.{good-inputs}
-use Rattle.run.specs.declared.Stop.the-variants.{Not, Room}
-use Rattle.run.specs.Run.{stopAt, Ran, stopped, unlessStopped, runFrom}
+use Rattle.runlist.specs.declared.Stop.the-variants.{Not, Room}
+use Rattle.runlist.specs.Run.{stopAt, Ran, stopped, unlessStopped, runFrom}
 use Rattle.run.specs.RunCall.{lent, ended, exit}
 use Rattle.history.proofs.Stands.{written-stands, instant-entry, after-bytes, next-lawful, instant-lawful}
 
@@ -55,7 +55,7 @@ module _ (score : List ℕ) (accepted : numberOf (verdict score) ≡ 0) where
       rw (instant-lawful score law counted s inputs h, instant-entry score law counted s inputs, after-bytes score law counted s inputs, rest)
 
   pub exit-plays : (inputs journal scratch : List ℕ) (st : State) → LawfulState (sizes score .agents) st → length scratch ≡ 2048 → formOf false (sizes score .tokens) inputs ≡ Good →
-      exit score inputs (lent (asBytes st) journal scratch) ≡ ended journal (playOn (decode score) st (length journal) (inputLists inputs))
+      exit score inputs (lent (asBytes st) journal scratch) ≡ ended (lent (asBytes st) journal scratch) (playOn (decode score) st (length journal) (inputLists inputs))
   unfolding exit
   exit-plays inputs journal scratch st lawful long good =
       let rising : Within (Rising (decode score .tokens)) (inputLists inputs) = λ l m. subst (λ t. Rising t l) (sym (decode-tokens score)) (good-inputs false (sizes score .tokens) inputs good l m) in

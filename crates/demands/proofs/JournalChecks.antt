@@ -30,7 +30,7 @@ use Rattle.history.specs.declared.Reply.the-variants.{Unlawful, Differs, Accept
 use Rattle.history.specs.AnswerIn.{answerIn}
 use Rattle.history.specs.ByForm.{byForm}
 use Rattle.journalcheck.specs.Check.{same, checkFrom}
-use Rattle.journalcheck.specs.JournalCheckCall.{left, exit}
+use Rattle.journalcheck.specs.JournalCheckCall.{left, checked, exit}
 use Rattle.history.proofs.Stands.{Stands, written-stands}
 use Rattle.journalcheck.proofs.Exact.{check-entries, check-exact}
 use Rattle.score.specs.Answer.{numberOf, valueOf}
@@ -64,15 +64,11 @@ module _ (score : List ℕ) (accepted : check.numberOf (check.verdict score) ≡
       (on-cons (law .roots-known 0 (law .some-roots)) (λ i m. absurd (List·Memᴰ·not-nil m)))
 
   module _ (journal scratch : List ℕ) (long : length scratch ≡ scratchBytes) where
-    checked : Reply
-    checked = checkFrom score (asBytes (startState (decode score))) 0 (instantsIn (words journal))
-
-    check-reply : exit score journal scratch .reply ≡ byForm (formOf true (sizes score .tokens) journal) (left scratch) (left noScratch checked) .reply
-    unfolding exit checked
+    check-reply : exit score journal scratch .reply ≡ byForm (formOf true (sizes score .tokens) journal) (left scratch) (left noScratch (checked score journal)) .reply
+    unfolding exit
     check-reply = rw (accepted, long)
 
     pub history-accepted : (n : ℕ) → IsHistory (decode score) (startState (decode score)) journal n → exit score journal scratch .reply ≡ Accepted n
-    unfolding checked
     history-accepted n h =
         let sc = decode score in
         let law = lawful score accepted in
@@ -80,17 +76,16 @@ module _ (score : List ℕ) (accepted : check.numberOf (check.verdict score) ≡
         ap₂ (formOf true) (sym (decode-tokens score)) (h .is) ∙ history-good sc law (startState sc) (h .inputs) (h .rising) in
         let read = ap (λ x. instantsIn (words x)) (h .is) ∙ history-instants sc law (startState sc) (h .inputs) (h .rising) in
         check-reply
-        ∙ ap (λ f. byForm f (left scratch) (left noScratch checked) .reply) good
+        ∙ ap (λ f. byForm f (left scratch) (left noScratch (checked score journal)) .reply) good
         ∙ ap (checkFrom score (asBytes (startState sc)) 0) read
         ∙ check-entries score law (agents-counted score accepted) (h .inputs) (h .rising) (asBytes (startState sc)) (startState sc) start-stands 0
         ∙ ap Accepted (omega (arith, h .instants))
 
     pub accepted-history : Slice journal → (n : ℕ) → numberOf (ofRunReply (exit score journal scratch .reply)) ≡ 0 → valueOf (ofRunReply (exit score journal scratch .reply)) ≡ n → IsHistory (decode score) (startState (decode score)) journal n
-    unfolding checked
     accepted-history lent n z v =
         go (formOf true (sizes score .tokens) journal) refl (ap (λ r. numberOf (ofRunReply r)) (sym check-reply) ∙ z) (ap (λ r. valueOf (ofRunReply r)) (sym check-reply) ∙ v)
       where
-        is-history : formOf true (sizes score .tokens) journal ≡ Good → checked ≡ Accepted n → IsHistory (decode score) (startState (decode score)) journal n
+        is-history : formOf true (sizes score .tokens) journal ≡ Good → checked score journal ≡ Accepted n → IsHistory (decode score) (startState (decode score)) journal n
         is-history g e =
             let sc = decode score in
             let instants = instantsIn (words journal) in
@@ -106,7 +101,7 @@ module _ (score : List ℕ) (accepted : check.numberOf (check.verdict score) ≡
             }
 
         go : (f : Form) → formOf true (sizes score .tokens) journal ≡ f →
-            numberOf (ofRunReply (byForm f (left scratch) (left noScratch checked) .reply)) ≡ 0 → valueOf (ofRunReply (byForm f (left scratch) (left noScratch checked) .reply)) ≡ n → IsHistory (decode score) (startState (decode score)) journal n
+            numberOf (ofRunReply (byForm f (left scratch) (left noScratch (checked score journal)) .reply)) ≡ 0 → valueOf (ofRunReply (byForm f (left scratch) (left noScratch (checked score journal)) .reply)) ≡ n → IsHistory (decode score) (startState (decode score)) journal n
         go Good g z v = is-history g (zero-accepted score (asBytes (startState (decode score))) 0 (instantsIn (words journal)) z ∙ ap Accepted v)
         go Bytes g z v = absurd (omega arith)
         go (Word k) g z v = absurd (omega arith)

@@ -15,9 +15,9 @@ use Rattle.lent.specs.States.{asBytes}
 use Rattle.journal.specs.Instants.{inputLists}
 use Rattle.journal.specs.History.{history}
 use Rattle.run.specs.RunCall.{Lent}
-use Rattle.run.proofs.Replies.{run-few}
+use Rattle.runlist.proofs.Counts.{run-few}
 use Rattle.history.proofs.Stands.{Stands}
-use Rattle.run.proofs.Exact.{run-history}
+use Rattle.runlist.proofs.Exact.{run-history}
 use Rattle.score.specs.ScoreRun.{ScoreRun}
 use Rattle.demands.specs.Calls.{written}
 use Rattle.demands.specs.JournalExact.{startHistory}

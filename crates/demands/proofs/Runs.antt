@@ -20,10 +20,10 @@ use Rattle.lent.specs.Bits.{bytesOf}
 use Rattle.lent.specs.States.{asBytes}
 use Rattle.journal.specs.Instants.{inputLists}
 use Rattle.journal.specs.History.{entry}
-use Rattle.run.specs.declared.Stop.{Stop}
-use Rattle.run.specs.declared.Stop.the-variants.{Not, Next, Room}
+use Rattle.runlist.specs.declared.Stop.{Stop}
+use Rattle.runlist.specs.declared.Stop.the-variants.{Not, Next, Room}
 use Rattle.history.specs.AnswerIn.{answerIn}
-use Rattle.run.specs.Run.{stopAt, Ran, unlessStopped, runFrom}
+use Rattle.runlist.specs.Run.{stopAt, Ran, unlessStopped, runFrom}
 use Rattle.run.specs.RunCall.{ending, ended}
 use Rattle.run.specs.RunCall as run
 use Rattle.score.specs.Answer.{numberOf, valueOf, numberIn, valueIn}
@@ -87,7 +87,7 @@ not-eleven n Room h e = omega arith
 -- a run that was refused, or one that ran
 pub data Ended (score inputs : List ℕ) (l m : run.Lent) (a : ℕ) : Type 0 where
   refused : written a ≡ 0 → m ≡ l → Ended score inputs l m a
-  ran : run-exit.Fit score inputs l → written a ≡ ranOn score inputs l .instants → m ≡ ended (l .journal) (ranOn score inputs l) .lent → Ended score inputs l m a
+  ran : run-exit.Fit score inputs l → written a ≡ ranOn score inputs l .instants → m ≡ ended l (ranOn score inputs l) .lent → Ended score inputs l m a
 
 module _ {score inputs : List ℕ} {l m : run.Lent} {a : ℕ} (c : ScoreRun score inputs l m a) where
   number-is : (e : run.Exit) → run.exit score inputs l ≡ e → numberIn a ≡ numberOf (ofRunReply (e .reply))

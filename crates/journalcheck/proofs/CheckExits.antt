@@ -1,16 +1,16 @@
 -- The journal check's exits, one for each reply.
 --     turned, lengths, not-whole, against, read
 use mathlib.Core.Path.{_≡_, ap, _∙_}
-use mathlib.Core.Bool.{true, cond, not}
+use mathlib.Core.Bool.{true, not}
 use mathlib.Core.List.{List}
 use Prim.Native.Nat.{ℕ}
 use borrow.Author.Tests.{eq-eqb, ne-eqb}
-use lib.Dec.{eqb}
 use lib.ListN.{length}
 use Rattle.tcc.proofs.Tests.{cond-true, cond-false}
 use Rattle.format.specs.Decode.{sizes}
 use Rattle.scorefile.specs.declared.Verdict.{Verdict}
 use Rattle.scorefile.specs.Check.{numberOf, verdict}
+use Rattle.scorefile.proofs.Stages.{passed}
 use Rattle.scorefile.proofs.Stages as stages
 use Rattle.lent.specs.Lengths.{scratchBytes, noScratch}
 use Rattle.journal.specs.declared.Form.{Form}
@@ -20,41 +20,34 @@ use Rattle.history.specs.declared.Reply.{Reply}
 use Rattle.history.specs.declared.Reply.the-variants.{Score as Turned, Lengths, Bytes as NoWords, Word as Against}
 use Rattle.history.specs.ByForm.{byForm}
 use Rattle.history.proofs.ByForm.{by-form}
-use Rattle.journalcheck.specs.JournalCheckCall.{Exit, left, exit}
-use Rattle.journalcheck.proofs.Checks.{checked}
+use Rattle.journalcheck.specs.JournalCheckCall.{Exit, left, checked, exit}
 
 module _ (score journal scratch : List ℕ) where
-  -- what the call does once a stage is passed
-  abbrev after-lengths : Exit
-  after-lengths = byForm (formOf true (sizes score .tokens) journal) (left scratch) (left noScratch (checked score journal))
-
-  abbrev after-score : Exit
-  after-score = cond (not (eqb (length scratch) scratchBytes)) (left scratch Lengths) after-lengths
+  abbrev down : Verdict → Exit
+  down v = left scratch (Turned v)
 
   pub turned : {v : Verdict} {n : ℕ} → n ≡ numberOf v → v ≡ verdict score → (n ≡ 0 → ⊥) → left scratch (Turned v) ≡ exit score journal scratch
   unfolding exit
-  turned number-is is not-zero = stages.turned score number-is is (λ v. left scratch (Turned v)) after-score not-zero
+  turned number-is is not-zero = stages.turned score number-is is down _ not-zero
 
   module _ (accepted : numberOf (verdict score) ≡ 0) where
-    from-score : after-score ≡ exit score journal scratch
-    unfolding exit
-    from-score = stages.passed score accepted (λ v. left scratch (Turned v)) after-score
-
     pub lengths : (length scratch ≡ scratchBytes → ⊥) → left scratch Lengths ≡ exit score journal scratch
-    lengths n = cond-true (left scratch Lengths) after-lengths (ap not (ne-eqb (length scratch) scratchBytes n)) ∙ from-score
+    unfolding exit
+    lengths n = cond-true _ _ (ap not (ne-eqb (length scratch) scratchBytes n)) ∙ passed score accepted down _
 
     module _ (long : length scratch ≡ scratchBytes) where
-      from-form : {f : Form} → formOf true (sizes score .tokens) journal ≡ f → byForm f (left scratch) (left noScratch (checked score journal)) ≡ exit score journal scratch
-      from-form e =
+      formed : {f : Form} → formOf true (sizes score .tokens) journal ≡ f → byForm f (left scratch) (left noScratch (checked score journal)) ≡ exit score journal scratch
+      unfolding exit
+      formed e =
           by-form (left scratch) (left noScratch (checked score journal)) e
-          ∙ cond-false (left scratch Lengths) after-lengths (ap not (eq-eqb (length scratch) scratchBytes long)) ∙ from-score
+          ∙ cond-false _ _ (ap not (eq-eqb (length scratch) scratchBytes long)) ∙ passed score accepted down _
 
       pub not-whole : formOf true (sizes score .tokens) journal ≡ Bytes → left scratch NoWords ≡ exit score journal scratch
-      not-whole e = from-form e
+      not-whole e = formed e
 
       pub against : (k : ℕ) → formOf true (sizes score .tokens) journal ≡ Word k → left scratch (Against k) ≡ exit score journal scratch
-      against k e = from-form e
+      against k e = formed e
 
       pub read : formOf true (sizes score .tokens) journal ≡ Good → {scratch′ : List ℕ} {reply : Reply} → scratch′ ≡ noScratch → reply ≡ checked score journal →
           _≡_ {A = Exit} (record { scratch = scratch′; reply = reply }) (exit score journal scratch)
-      read good z r = (λ i. left (z i) (r i)) ∙ from-form good
+      read good z r = (λ i. left (z i) (r i)) ∙ formed good

@@ -1,5 +1,4 @@
 -- A journal check half way: what it has read, and what it has still to read.
---     checked          the whole check
 --     Checking         the invariant: the whole check is the check from here on
 --     checking-none    before the first instant
 --     checking-end     past the last
@@ -35,12 +34,10 @@ use Rattle.history.specs.declared.Reply.{Reply}
 use Rattle.history.specs.declared.Reply.the-variants.{Unlawful, Differs, Accepted}
 use Rattle.journalcheck.specs.declared.Checked.{Checked}
 use Rattle.journalcheck.specs.Check.{same, checkFrom}
+use Rattle.journalcheck.specs.JournalCheckCall.{checked}
 use Rattle.journalcheck.specs.Held.{Held}
 use Rattle.history.proofs.Reading.{Reading, reading-none, Next, reading-next}
 use Rattle.history.proofs.Starts.{start-lawful}
-
-abbrev pub checked : List ℕ → List ℕ → Reply
-checked score journal = checkFrom score (asBytes (startState (decode score))) 0 (instantsIn (words journal))
 
 pub record Checking (score journal : List ℕ) (stands : Standing) (n at : ℕ) : Type 0 where
   pub state : List ℕ

@@ -2,6 +2,7 @@
 -- start state.
 --     Exit                 what the scratch holds afterwards, and the reply
 --     left                 an exit
+--     checked              the instants, from the start state
 --     exit                 the whole call
 --     JournalCheckCall     its contract
 use mathlib.Core.Path.{_≡_}
@@ -11,11 +12,11 @@ use Prim.Native.Nat.{ℕ}
 use lib.Dec.{eqb}
 use lib.ListN.{length}
 use Rattle.tcc.specs.Instant.{startState}
+use Rattle.words.specs.Word.{words}
 use Rattle.format.specs.Decode.{sizes, decode}
 use Rattle.scorefile.specs.Check.{numberOf, verdict}
-use Rattle.words.specs.Word.{words}
-use Rattle.lent.specs.States.{asBytes}
 use Rattle.lent.specs.Lengths.{scratchBytes, noScratch}
+use Rattle.lent.specs.States.{asBytes}
 use Rattle.journal.specs.Form.{formOf}
 use Rattle.journal.specs.Instants.{instantsIn}
 use Rattle.history.specs.declared.Reply.{Reply}
@@ -30,12 +31,15 @@ pub record Exit : Type 0 where
 abbrev pub left : List ℕ → Reply → Exit
 left scratch r = record { scratch = scratch; reply = r }
 
+abbrev pub checked : List ℕ → List ℕ → Reply
+checked score journal = checkFrom score (asBytes (startState (decode score))) 0 (instantsIn (words journal))
+
 unfoldable pub exit : List ℕ → List ℕ → List ℕ → Exit
 exit score journal scratch =
     cond (not (eqb (numberOf (verdict score)) 0)) (left scratch (Turned (verdict score)))
     (cond (not (eqb (length scratch) scratchBytes)) (left scratch Lengths)
     (byForm (formOf true (sizes score .tokens) journal) (left scratch)
-    (left noScratch (checkFrom score (asBytes (startState (decode score))) 0 (instantsIn (words journal))))))
+    (left noScratch (checked score journal))))
 
 -- the call's contract: over the score, the journal, the scratch before and after, and the reply
 pub record JournalCheckCall (score journal before after : List ℕ) (reply : Reply) : Type 0 where

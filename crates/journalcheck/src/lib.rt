@@ -2,21 +2,21 @@ ghost use mathlib.Core.Path.{_≡_};
 ghost use mathlib.Core.Bool.{false, true, not};
 ghost use Prim.Native.Nat.{_<_};
 ghost use lib.ListN.{length};
-ghost use Rattle.tcc.specs.Instant.{startState, answer};
+ghost use Rattle.tcc.specs.Instant.{answer};
 ghost use Rattle.words.specs.Word.{words};
 ghost use Rattle.format.specs.Decode.{sizes, decode};
 ghost use Rattle.format.specs.Playable.{Playable};
 ghost use Rattle.store.specs.Flags.{setOf};
-ghost use Rattle.lent.specs.States.{asBytes, LawfulState};
+ghost use Rattle.lent.specs.States.{LawfulState};
 ghost use Rattle.instant.specs.Standing.{stateIn};
 ghost use Rattle.journal.specs.declared.Form.the-variants.{Good};
 ghost use Rattle.journal.specs.Form.{formOf};
-ghost use Rattle.journal.specs.Instants.{instantsIn, inputsIn};
+ghost use Rattle.journal.specs.Instants.{inputsIn};
 ghost use Rattle.journal.specs.History.{instantWords};
 ghost use Rattle.journal.specs.Formed.{Formed};
-ghost use Rattle.journalcheck.specs.Check.{same, checkFrom};
+ghost use Rattle.journalcheck.specs.Check.{same};
 ghost use Rattle.journalcheck.specs.Held.{Held};
-ghost use Rattle.journalcheck.specs.JournalCheckCall.{JournalCheckCall};
+ghost use Rattle.journalcheck.specs.JournalCheckCall.{checked, JournalCheckCall};
 use format::Sizes;
 use history::Reply;
 use instant::Standing;
@@ -59,7 +59,7 @@ fn check_list(score: &[u8], head: Sizes, journal: &[u8]) -> Reply
     requires { ⌜ head ≡ sizes (now score) ⌝ }
     requires { ⌜ Playable (now score) ⌝ }
     requires { ⌜ formOf true (sizes (now score) .tokens) (now journal) ≡ Good ⌝ }
-    ensures { λ r. ⌜ r ≡ checkFrom (now (score .entry)) (asBytes (startState (decode (now (score .entry))))) 0 (instantsIn (words (now (journal .entry)))) ⌝ }
+    ensures { λ r. ⌜ r ≡ checked (now (score .entry)) (now (journal .entry)) ⌝ }
 {
     let mut stands = history::start(score, head);
     let mut instants = 0;

@@ -1,5 +1,2 @@
-pub mod Took
-pub mod Runs
 pub mod RunExits
 pub mod Replies
-pub mod Exact

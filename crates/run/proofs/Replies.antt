@@ -1,41 +1,24 @@
 -- The replies of a run.
---     run-few          a run writes no more instants than its list has
 --     run-proper       a run's replies are proper, where n is the whole words of the list
-use mathlib.Core.Path.{_≡_, refl}
+use mathlib.Core.Path.{refl}
 use mathlib.Core.Bool.{false}
-use mathlib.Core.List.{List, [], _∷_}
-use Prim.Native.Nat.{ℕ, suc, _*_, _-_, _/_, _≤_}
+use mathlib.Core.List.{List}
+use Prim.Native.Nat.{ℕ, _/_, _≤_}
 use native.Mathlib.Omega.{arith}
 use lib.ListN.{length, length-map}
-use Rattle.tcc.specs.Instant.{after}
 use Rattle.words.specs.Word.{words}
 use Rattle.words.proofs.Words.{words-length}
-use Rattle.format.specs.Decode.{sizes, decode}
-use Rattle.lent.specs.States.{stateFault, asBytes}
-use Rattle.journal.specs.Form.{formOf}
+use Rattle.format.specs.Decode.{sizes}
+use Rattle.lent.specs.States.{stateFault}
 use Rattle.journal.specs.Instants.{instantsIn, inputsIn, inputLists}
-use Rattle.journal.specs.History.{entry}
 use Rattle.journal.proofs.Counts.{instants-few}
 use Rattle.history.specs.declared.Reply.{Reply}
-use Rattle.history.specs.AnswerIn.{answerIn}
 use Rattle.history.proofs.Replies.{Proper, unlawful, full, accepted, Replies, by-score, by-lengths, by-state, by-form}
-use Rattle.run.specs.declared.Stop.{Stop}
-use Rattle.run.specs.declared.Stop.the-variants.{Not, Next, Room}
-use Rattle.run.specs.Run.{Ran, stopAt, unlessStopped, runFrom}
+use Rattle.runlist.specs.declared.Stop.{Stop}
+use Rattle.runlist.specs.declared.Stop.the-variants.{Not, Next, Room}
+use Rattle.runlist.specs.Run.{Ran, runFrom}
+use Rattle.runlist.proofs.Counts.{run-few}
 use Rattle.run.specs.RunCall.{Lent, Exit, lengthFault, kept, ending, ended, exit}
-
-pub run-few : (score state : List ℕ) (room : ℕ) (l : List (List ℕ)) → runFrom score state room l .instants ≤ length l
-unfolding runFrom
-run-few score state room [] = omega arith
-run-few score state room (inputs ∷ more) =
-    let a = answerIn score state inputs in
-    let e = entry (decode score) inputs a in
-    go (stopAt score a (4 * length e) room) e (runFrom score (asBytes (after a)) (room - 4 * length e) more) (run-few score (asBytes (after a)) (room - 4 * length e) more)
-  where
-    go : (why : Stop) (e : List ℕ) (r : Ran) → r .instants ≤ length more → unlessStopped why state e r .instants ≤ suc (length more)
-    go Not e r h = omega arith
-    go Next e r h = omega arith
-    go Room e r h = omega arith
 
 ending-proper : (score : List ℕ) (n : ℕ) (why : Stop) (k : ℕ) → k ≤ n → Proper score n (ending why k)
 ending-proper score n Not k h = accepted k h

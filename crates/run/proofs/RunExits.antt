@@ -2,7 +2,7 @@
 --     turned, lengths, state, bytes, word, runs
 --     Lengths-are      the two lengths, where none is wrong
 use mathlib.Core.Path.{_≡_, _∙_}
-use mathlib.Core.Bool.{true, false, cond, not}
+use mathlib.Core.Bool.{true, false, not}
 use mathlib.Core.List.{List}
 use Prim.Native.Nat.{ℕ}
 use lib.Dec.{eqb}
@@ -12,6 +12,7 @@ use Rattle.format.specs.Decode.{sizes}
 use Rattle.scorefile.specs.declared.Verdict.{Verdict}
 use Rattle.scorefile.specs.Check.{numberOf, verdict}
 use Rattle.scorefile.proofs.Accepted.{neither}
+use Rattle.scorefile.proofs.Stages.{passed}
 use Rattle.scorefile.proofs.Stages as stages
 use Rattle.lent.specs.Lengths.{stateBytes, scratchBytes, noScratch}
 use Rattle.lent.specs.States.{stateFault}
@@ -24,57 +25,45 @@ use Rattle.history.specs.declared.Reply.{Reply}
 use Rattle.history.specs.declared.Reply.the-variants.{Score as Turned, Lengths, State, Bytes as NoWords, Word as Against}
 use Rattle.history.specs.ByForm.{byForm}
 use Rattle.history.proofs.ByForm.{by-form}
-use Rattle.run.specs.Run.{Ran, runFrom}
-use Rattle.run.specs.RunCall.{Lent, lent, Exit, lengthFault, kept, ended, exit}
-use Rattle.run.specs.Advance.{LeftBy}
+use Rattle.runlist.specs.Run.{Ran, runFrom}
+use Rattle.run.specs.RunCall.{Lent, lent, Exit, lengthFault, kept, ended, exit, LeftBy}
 
 module _ (score inputs : List ℕ) (l : Lent) where
-  -- what the call does once a stage is passed
-  abbrev ran : Ran
-  ran = runFrom score (l .state) (length (l .journal)) (inputLists inputs)
-
-  abbrev after-state : Exit
-  after-state = byForm (formOf false (sizes score .tokens) inputs) (kept l) (ended (l .journal) ran)
-
-  abbrev after-lengths : Exit
-  after-lengths = cond (stateFault (sizes score .agents) (l .state)) (kept l State) after-state
-
-  abbrev after-score : Exit
-  after-score = cond (lengthFault l) (kept l Lengths) after-lengths
+  abbrev down : Verdict → Exit
+  down v = kept l (Turned v)
 
   pub turned : {v : Verdict} {n : ℕ} → n ≡ numberOf v → v ≡ verdict score → (n ≡ 0 → ⊥) → kept l (Turned v) ≡ exit score inputs l
   unfolding exit
-  turned number-is is not-zero = stages.turned score number-is is (λ v. kept l (Turned v)) after-score not-zero
+  turned number-is is not-zero = stages.turned score number-is is down _ not-zero
 
   module _ (accepted : numberOf (verdict score) ≡ 0) where
-    from-score : after-score ≡ exit score inputs l
-    unfolding exit
-    from-score = stages.passed score accepted (λ v. kept l (Turned v)) after-score
-
     pub lengths : lengthFault l ≡ true → kept l Lengths ≡ exit score inputs l
-    lengths e = cond-true (kept l Lengths) after-lengths e ∙ from-score
+    unfolding exit
+    lengths e = cond-true _ _ e ∙ passed score accepted down _
 
     module _ (long : lengthFault l ≡ false) where
-      from-lengths : after-lengths ≡ exit score inputs l
-      from-lengths = cond-false (kept l Lengths) after-lengths long ∙ from-score
-
       pub state : stateFault (sizes score .agents) (l .state) ≡ true → kept l State ≡ exit score inputs l
-      state e = cond-true (kept l State) after-state e ∙ from-lengths
+      unfolding exit
+      state e = cond-true _ _ e ∙ cond-false _ _ long ∙ passed score accepted down _
 
       module _ (lawful : stateFault (sizes score .agents) (l .state) ≡ false) where
-        from-form : {f : Form} → formOf false (sizes score .tokens) inputs ≡ f → byForm f (kept l) (ended (l .journal) ran) ≡ exit score inputs l
-        from-form e = by-form (kept l) (ended (l .journal) ran) e ∙ cond-false (kept l State) after-state lawful ∙ from-lengths
+        abbrev ran : Ran
+        ran = runFrom score (l .state) (length (l .journal)) (inputLists inputs)
+
+        formed : {f : Form} → formOf false (sizes score .tokens) inputs ≡ f → byForm f (kept l) (ended l ran) ≡ exit score inputs l
+        unfolding exit
+        formed e = by-form (kept l) (ended l ran) e ∙ cond-false _ _ lawful ∙ cond-false _ _ long ∙ passed score accepted down _
 
         pub bytes : formOf false (sizes score .tokens) inputs ≡ Bytes → kept l NoWords ≡ exit score inputs l
-        bytes e = from-form e
+        bytes e = formed e
 
         pub word : (k : ℕ) → formOf false (sizes score .tokens) inputs ≡ Word k → kept l (Against k) ≡ exit score inputs l
-        word k e = from-form e
+        word k e = formed e
 
         pub runs : formOf false (sizes score .tokens) inputs ≡ Good → (state′ journal′ scratch′ : List ℕ) (reply : Reply) → scratch′ ≡ noScratch →
             LeftBy ran (l .journal) state′ journal′ reply →
             _≡_ {A = Exit} (record { lent = lent state′ journal′ scratch′; reply = reply }) (exit score inputs l)
-        runs good state′ journal′ scratch′ reply z r = (λ i. record { lent = lent (r .state-is i) (r .journal-is i) (z i); reply = r .reply-is i }) ∙ from-form good
+        runs good state′ journal′ scratch′ reply z r = (λ i. record { lent = lent (r .state-is i) (r .journal-is i) (z i); reply = r .reply-is i }) ∙ formed good
 
 pub record Lengths-are (l : Lent) : Type 0 where
   pub state-long : length (l .state) ≡ stateBytes

@@ -1,3 +1,1 @@
-pub mod Run
 pub mod RunCall
-pub mod Advance

@@ -5,6 +5,7 @@
 --     kept             a refusal: all as it was
 --     ended            the instants before the end written, the journal beyond them as it was, the state after them
 --     exit             the whole call
+--     LeftBy           what its last part leaves
 --     RunCall          its contract
 use mathlib.Core.Path.{_≡_}
 use mathlib.Core.Bool.{Bool, true, false, cond, not, _||_}
@@ -19,12 +20,12 @@ use Rattle.lent.specs.Lengths.{stateBytes, scratchBytes, noScratch}
 use Rattle.lent.specs.States.{stateFault}
 use Rattle.journal.specs.Form.{formOf}
 use Rattle.journal.specs.Instants.{inputLists}
-use Rattle.run.specs.declared.Stop.{Stop}
-use Rattle.run.specs.declared.Stop.the-variants.{Not, Next, Room}
+use Rattle.runlist.specs.declared.Stop.{Stop}
+use Rattle.runlist.specs.declared.Stop.the-variants.{Not, Next, Room}
 use Rattle.history.specs.declared.Reply.{Reply}
 use Rattle.history.specs.declared.Reply.the-variants.{Score as Turned, Lengths, State, Unlawful, Full, Accepted}
 use Rattle.history.specs.ByForm.{byForm}
-use Rattle.run.specs.Run.{Ran, runFrom}
+use Rattle.runlist.specs.Run.{Ran, runFrom}
 
 pub record Lent : Type 0 where
   pub state : List ℕ
@@ -50,10 +51,10 @@ ending Not n = Accepted n
 ending Next n = Unlawful
 ending Room n = Full n
 
-abbrev pub ended : List ℕ → Ran → Exit
-ended journal r =
+abbrev pub ended : Lent → Ran → Exit
+ended l r =
     record {
-      lent = lent (r .state) (bytesOf (r .words) ++ drop (4 * length (r .words)) journal) noScratch;
+      lent = lent (r .state) (bytesOf (r .words) ++ drop (4 * length (r .words)) (l .journal)) noScratch;
       reply = ending (r .stop) (r .instants);
     }
 
@@ -63,7 +64,13 @@ exit score inputs l =
     (cond (lengthFault l) (kept l Lengths)
     (cond (stateFault (sizes score .agents) (l .state)) (kept l State)
     (byForm (formOf false (sizes score .tokens) inputs) (kept l)
-    (ended (l .journal) (runFrom score (l .state) (length (l .journal)) (inputLists inputs))))))
+    (ended l (runFrom score (l .state) (length (l .journal)) (inputLists inputs))))))
+
+-- what a run of a list of good form leaves in the state and in the journal, and its reply
+pub record LeftBy (r : Ran) (before state′ journal′ : List ℕ) (reply : Reply) : Type 0 where
+  pub state-is : state′ ≡ r .state
+  pub journal-is : journal′ ≡ bytesOf (r .words) ++ drop (4 * length (r .words)) before
+  pub reply-is : reply ≡ ending (r .stop) (r .instants)
 
 -- the call's contract: over the score, the input list, the buffers before and after, and the reply
 pub record RunCall (score inputs : List ℕ) (before after : Lent) (reply : Reply) : Type 0 where

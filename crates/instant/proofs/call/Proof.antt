@@ -1,14 +1,13 @@
 -- `call`: each test in the order of the table, then the answer.
 use mathlib.Core.Path.{_≡_, refl, sym, ap, ap₂, subst⁻¹, _∙_}
-use mathlib.Core.Bool.{true, false, cond, true≢false}
+use mathlib.Core.Bool.{false, true≢false}
 use Prim.Native.Nat.{ℕ, _<_, _≤_}
 use borrow.Author.Needs.{needs}
 use native.Mathlib.Omega.{arith}
-use lib.Dec.{eqb, leb}
-use mathlib.Core.List.{List, _∷_}
+use lib.Dec.{leb}
 use lib.ListN.{length, getD, replicate}
 use Rattle.tcc.specs.Sets.{any}
-use Rattle.tcc.specs.Instant.{Answer, count, output, answer}
+use Rattle.tcc.specs.Instant.{Answer, answer}
 use Rattle.words.proofs.Words.{words-length}
 use Rattle.format.specs.Decode.{sizes, decode}
 use Rattle.format.proofs.Decode.{playable-agents, decode-tokens, sizes-few}
@@ -19,16 +18,14 @@ use Rattle.scorefile.proofs.Stages as stages
 use Rattle.store.specs.Flags.{setOf, flagsOf}
 use Rattle.format.specs.Playable.{Playable}
 use Rattle.engine.specs.Outcome.{outcomeOf}
-use Rattle.lent.specs.Bits.{bytesOf}
-use Rattle.lent.specs.Maps.{tokensIn, mapOf}
-use Rattle.lent.specs.States.{runningWord, abortedWord, agentWords, stateFault, stateOf, LawfulState}
+use Rattle.lent.specs.Maps.{tokensIn}
+use Rattle.lent.specs.States.{stateFault, stateOf, LawfulState}
 use Rattle.lent.proofs.Filled.{none-from, from-none}
 use Rattle.lent.proofs.Round.{faultless-lawful}
 use Rattle.lent.proofs.Tokens.{tokens-set}
-use Rattle.instant.specs.declared.Reply.the-variants.{Settled}
-use Rattle.instant.specs.InstantCall.{Lent, lent, Exit, lengthFault, tokenFault}
-use Rattle.instant.proofs.Exits.{turned, lengths, state, input, settled, Lengths-are, right-lengths}
-use Rattle.instant.proofs.Written.{Inside, answer-inside, next-lawful, state-written, store-written, output-written, flags-known}
+use Rattle.instant.specs.InstantCall.{Lent, lent, lengthFault, tokenFault}
+use Rattle.instant.proofs.Exits.{turned, lengths, state, input, settled, handed, Lengths-are, right-lengths}
+use Rattle.instant.proofs.Written.{Inside, answer-inside, next-lawful, flags-known}
 use Rattle.instant.proofs.call.Statement.{statement}
 use Rattle.instant.proofs.call.Tie as tie
 
@@ -38,8 +35,11 @@ buffers b = lent (b .args .state .now) (b .args .store .now) (b .args .output .n
 accepted : (c : tie.Else1) → numberOf (verdict (c .before .before .before .before .before .before .before .before .before .args .score .now)) ≡ 0
 accepted c = stages.accepted (c .before .before .before .before .before .before .before .before .before .args .score .now) (c .before .number-of .ensures) (c .before .before .check .ensures) (c .if1 .left)
 
+lengths-tested : (c : tie.After-wrong-length) → c .wrong-length .result ≡ lengthFault (c .before .before .before .before .before .before .before .before .before .before .args .input .now) (buffers (c .before .before .before .before .before .before .before .before .before .before))
+lengths-tested c = c .wrong-length .ensures
+
 long : (c : tie.Else2) → lengthFault (c .before .before .before .before .before .before .before .before .before .before .before .args .input .now) (buffers (c .before .before .before .before .before .before .before .before .before .before .before)) ≡ false
-long c = sym (c .before .wrong-length .ensures) ∙ c .if2 .left
+long c = sym (lengths-tested (c .before)) ∙ c .if2 .left
 
 -- by the five lengths
 lengths-are : (c : tie.Else2) → Lengths-are (c .before .before .before .before .before .before .before .before .before .before .before .args .input .now) (buffers (c .before .before .before .before .before .before .before .before .before .before .before))
@@ -64,10 +64,6 @@ token-fault : (c : tie.After-any-from) → c .any-from .result ≡ tokenFault (c
 token-fault c =
     c .any-from .ensures
     ∙ ap₂ (λ h l. any (λ t. leb (h .tokens) t) l) (sizes-are (c .before .before .before .before .before .before)) (inputs-are (c .before .before))
-
-same-exit : {s s′ t t′ o o′ f f′ : List ℕ} {m m′ n n′ : ℕ} → s ≡ s′ → t ≡ t′ → o ≡ o′ → f ≡ f′ → m ≡ m′ → n ≡ n′ →
-    _≡_ {A = Exit} (record { lent = lent s t o f; reply = Settled m n }) (record { lent = lent s′ t′ o′ f′; reply = Settled m′ n′ })
-same-exit p q r e a b = λ i. record { lent = lent (p i) (q i) (r i) (e i); reply = Settled (a i) (b i) }
 
 -- the answer that the call gives
 abbrev answer-of : tie.Start → Answer
@@ -105,7 +101,7 @@ wrong-length-requires c κs = search needs
 returns-2 : tie.Need-returns-2
 returns-2 c =
     let b = c .before .before .before .before .before .before .before .before .before .before .before in
-    record { exits = lengths (b .args .score .now) (b .args .input .now) (buffers b) (accepted (c .before .before)) (sym (c .before .wrong-length .ensures) ∙ c .if2 .taken) }
+    record { exits = lengths (b .args .score .now) (b .args .input .now) (buffers b) (accepted (c .before .before)) (sym (lengths-tested (c .before)) ∙ c .if2 .taken) }
 
 word-at-requires : tie.Need-word-at-requires
 word-at-requires c κs = omega (arith, playable (c .before .before) .whole)
@@ -206,14 +202,11 @@ same-length-8 : tie.Need-same-length-8
 same-length-8 c = search needs
 
 returns-6 : tie.Need-returns-6
-unfolding outcomeOf
 returns-6 c =
     let b = c .before .before .before .before .before .before .before .before .before .before .before .before .before .before .before .before .before .before .before .before .before .before .before .before .before .before .before .before .before .before .before .before .before .before .before .before .before .before .before .before in
     let s = b .args .score .now in
     let sc = decode s in
     let a = answer-of b in
-    let o = outcome-is (c .before .before .before .before .before .before .before .before .before .before .before .before .before .before .before .before .before .before) in
-    let h = c .before .before .before .before .before .before .hand-over .ensures in
     let i = inside (c .before .before .before .before .before .before .before .before .before .before .before .before .before .before .before .before .before .before .before .before) in
     let p = playable (c .before .before .before .before .before .before .before .before .before .before .before .before .before .before .before .before .before .before .before .before .before .before .before .before .before .before .before .before .before .before .before) in
     let few = sizes-few s in
@@ -221,14 +214,9 @@ returns-6 c =
     let t = decode-tokens s in
     record {
       exits =
-          same-exit
-          (h .state-is ∙ ap (λ x. bytesOf (cond (eqb (x .status) 2) abortedWord runningWord ∷ agentWords (setOf (x .awake)))) o ∙ state-written sc a (omega arith) i)
-          (h .store-is ∙ ap (λ x. mapOf (setOf (x .store))) o ∙ store-written sc a (omega arith) i)
-          (h .output-is ∙ ap (λ x. mapOf (output sc (x .status) (setOf (x .store)))) o ∙ output-written sc a (omega arith) i)
+          handed sc a (omega arith) (omega arith) i (outcome-is (c .before .before .before .before .before .before .before .before .before .before .before .before .before .before .before .before .before .before)) (c .before .before .before .before .before .before .hand-over .ensures)
           (c .before .before .before .before .before .before .before .before .before .before .before .before .before .before .before .before .clear .ensures ∙ ap (λ k. replicate k 0) (lengths-are (c .before .before .before .before .before .before .before .before .before .before .before .before .before .before .before .before .before .before .before .before .before .before .before .before .before .before .before .before .before) .scratch-long))
-          (ap (λ x. x .status) o)
-          (ap (λ x. x .count) o)
-          ∙ settled s (b .args .input .now) (buffers b) (accepted (c .before .before .before .before .before .before .before .before .before .before .before .before .before .before .before .before .before .before .before .before .before .before .before .before .before .before .before .before .before .before .before)) (long (c .before .before .before .before .before .before .before .before .before .before .before .before .before .before .before .before .before .before .before .before .before .before .before .before .before .before .before .before .before)) (state-lawful (c .before .before .before .before .before .before .before .before .before .before .before .before .before .before .before .before .before .before .before .before .before .before .before .before)) (sym (token-fault (c .before .before .before .before .before .before .before .before .before .before .before .before .before .before .before .before .before .before .before .before .before)) ∙ c .before .before .before .before .before .before .before .before .before .before .before .before .before .before .before .before .before .before .before .before .if4 .left) a refl (next-lawful sc a (sizes s .agents) n (omega arith) i);
+          (settled s (b .args .input .now) (buffers b) (accepted (c .before .before .before .before .before .before .before .before .before .before .before .before .before .before .before .before .before .before .before .before .before .before .before .before .before .before .before .before .before .before .before)) (long (c .before .before .before .before .before .before .before .before .before .before .before .before .before .before .before .before .before .before .before .before .before .before .before .before .before .before .before .before .before)) (state-lawful (c .before .before .before .before .before .before .before .before .before .before .before .before .before .before .before .before .before .before .before .before .before .before .before .before)) (sym (token-fault (c .before .before .before .before .before .before .before .before .before .before .before .before .before .before .before .before .before .before .before .before .before)) ∙ c .before .before .before .before .before .before .before .before .before .before .before .before .before .before .before .before .before .before .before .before .if4 .left) a refl (next-lawful sc a (sizes s .agents) n (omega arith) i));
     }
 
 pub call-spec : {M : Type 1} → statement M

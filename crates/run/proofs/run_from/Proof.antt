@@ -7,9 +7,9 @@ use Rattle.lent.proofs.Round.{faultless-lawful}
 use Rattle.instant.specs.Standing.{stateIn}
 use Rattle.instant.proofs.Standings.{standing-state}
 use Rattle.journal.specs.Instants.{inputLists}
-use Rattle.run.specs.Run.{runFrom}
+use Rattle.runlist.specs.Run.{runFrom}
 use Rattle.run.specs.RunCall.{ending}
-use Rattle.run.specs.Advance.{RanTo}
+use Rattle.runlist.specs.Advance.{RanTo}
 use borrow.Author.Needs.{needs}
 use Rattle.run.proofs.run_from.Statement.{statement}
 use Rattle.run.proofs.run_from.Tie as tie

@@ -27,13 +27,13 @@ use Rattle.instant.specs.Standing.{stateIn}
 use Rattle.instant.specs.declared.Standing.{Standing}
 use Rattle.journal.specs.Instants.{inputLists}
 use Rattle.journal.specs.History.{entry}
-use Rattle.run.specs.declared.Stop.{Stop}
-use Rattle.run.specs.declared.Stop.the-variants.{Not, Next, Room}
-use Rattle.run.specs.declared.Taken.{Taken}
-use Rattle.run.specs.declared.Ended.{Ended}
+use Rattle.runlist.specs.declared.Stop.{Stop}
+use Rattle.runlist.specs.declared.Stop.the-variants.{Not, Next, Room}
+use Rattle.runlist.specs.declared.Taken.{Taken}
+use Rattle.runlist.specs.declared.Ended.{Ended}
 use Rattle.history.specs.AnswerIn.{answerIn}
-use Rattle.run.specs.Run.{stopAt, Ran, stopped, preceded, unlessStopped, runFrom}
-use Rattle.run.specs.Advance.{Advanced, RanTo}
+use Rattle.runlist.specs.Run.{stopAt, Ran, stopped, preceded, unlessStopped, runFrom}
+use Rattle.runlist.specs.Advance.{Advanced, RanTo}
 
 abbrev pub behind : List ℕ → ℕ → Ran → Ran
 behind ws n r = record { words = ws ++ r .words; state = r .state; instants = n + r .instants; stop = r .stop }

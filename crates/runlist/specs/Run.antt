@@ -14,8 +14,8 @@ use Rattle.format.specs.Decode.{sizes, decode}
 use Rattle.lent.specs.States.{stateFault, asBytes}
 use Rattle.journal.specs.History.{entry}
 use Rattle.history.specs.AnswerIn.{answerIn}
-use Rattle.run.specs.declared.Stop.{Stop}
-use Rattle.run.specs.declared.Stop.the-variants.{Not, Next, Room}
+use Rattle.runlist.specs.declared.Stop.{Stop}
+use Rattle.runlist.specs.declared.Stop.the-variants.{Not, Next, Room}
 
 abbrev pub stopBy : Bool → ℕ → ℕ → Stop
 stopBy unlawful needed room = cond unlawful Next (cond (leb needed room) Not Room)

@@ -1,9 +1,9 @@
 -- `goes_on`: by the reason for the stop.
 use mathlib.Core.Path.{sym, ap}
 use borrow.Author.Needs.{needs}
-use Rattle.run.specs.Run.{goesOn}
-use Rattle.run.proofs.goes_on.Statement.{statement}
-use Rattle.run.proofs.goes_on.Tie as tie
+use Rattle.runlist.specs.Run.{goesOn}
+use Rattle.runlist.proofs.goes_on.Statement.{statement}
+use Rattle.runlist.proofs.goes_on.Tie as tie
 
 enum-told : tie.Need-enum-told
 enum-told c = search needs

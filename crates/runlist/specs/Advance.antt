@@ -1,7 +1,6 @@
 -- What the parts of a run do, by value.
 --     Advanced       one instant: why it is not written, or its words at the front of the journal, and where the score
 --                    stands then
---     LeftBy         what a run leaves in the state and in the journal, and its reply
 --     RanTo          a run from a state's bytes, given by its definition: what it wrote and where the score stands
 use mathlib.Core.Path.{_≡_}
 use mathlib.Core.Bool.{cond}
@@ -15,12 +14,10 @@ use Rattle.lent.specs.Bits.{bytesOf}
 use Rattle.lent.specs.States.{stateOf, asBytes, LawfulState}
 use Rattle.instant.specs.Standing.{stateIn}
 use Rattle.journal.specs.History.{entry}
-use Rattle.run.specs.declared.Stop.the-variants.{Not}
-use Rattle.run.specs.declared.Taken.{Taken}
-use Rattle.run.specs.declared.Ended.{Ended}
-use Rattle.history.specs.declared.Reply.{Reply}
-use Rattle.run.specs.Run.{Ran, stopAt}
-use Rattle.run.specs.RunCall.{ending}
+use Rattle.runlist.specs.declared.Stop.the-variants.{Not}
+use Rattle.runlist.specs.declared.Taken.{Taken}
+use Rattle.runlist.specs.declared.Ended.{Ended}
+use Rattle.runlist.specs.Run.{Ran, stopAt}
 
 pub record Advanced (score : List ℕ) (a : Answer) (words before after′ : List ℕ) (t : Taken) : Type 0 where
   pub stop-is : t .stop ≡ stopAt score a (4 * length words) (length before)
@@ -36,8 +33,3 @@ pub record RanTo (score s before after′ : List ℕ) (r : Ran) (e : Ended) : Ty
   pub journal-is : after′ ≡ bytesOf (r .words) ++ drop (4 * length (r .words)) before
   pub state-is : r .state ≡ cond (eqb (e .instants) 0) s (asBytes (stateIn (e .standing)))
   pub lawful : LawfulState (sizes score .agents) (stateIn (e .standing))
-
-pub record LeftBy (r : Ran) (before state′ journal′ : List ℕ) (reply : Reply) : Type 0 where
-  pub state-is : state′ ≡ r .state
-  pub journal-is : journal′ ≡ bytesOf (r .words) ++ drop (4 * length (r .words)) before
-  pub reply-is : reply ≡ ending (r .stop) (r .instants)

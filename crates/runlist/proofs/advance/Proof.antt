@@ -9,10 +9,10 @@ use Rattle.format.proofs.Decode.{decode-tokens}
 use Rattle.store.specs.Flags.{setOf}
 use Rattle.instant.specs.Standing.{stateIn}
 use Rattle.history.proofs.FromStanding.{status-few, outputs-known}
-use Rattle.run.specs.Run.{goesOn}
-use Rattle.run.proofs.Took.{took, goes-not, not-goes, not-stopped}
-use Rattle.run.proofs.advance.Statement.{statement}
-use Rattle.run.proofs.advance.Tie as tie
+use Rattle.runlist.specs.Run.{goesOn}
+use Rattle.runlist.proofs.Took.{took, goes-not, not-goes, not-stopped}
+use Rattle.runlist.proofs.advance.Statement.{statement}
+use Rattle.runlist.proofs.advance.Tie as tie
 
 few : (c : tie.Start) → c .args .head .tokens ≤ 256
 few c = omega (arith, ap (λ h. h .tokens) (c .pre .0), decode-tokens (c .args .score .now), c .pre .1 .0 .lawful .most-tokens)

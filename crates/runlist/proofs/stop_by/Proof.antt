@@ -3,10 +3,10 @@ use mathlib.Core.Path.{ap, sym, _∙_}
 use mathlib.Core.Bool.{cond}
 use native.Mathlib.Omega.{arith}
 use borrow.Author.Tests.{le-leb, lt-leb}
-use Rattle.run.specs.declared.Stop.the-variants.{Not, Next, Room}
-use Rattle.run.specs.Run.{stopBy}
-use Rattle.run.proofs.stop_by.Statement.{statement}
-use Rattle.run.proofs.stop_by.Tie as tie
+use Rattle.runlist.specs.declared.Stop.the-variants.{Not, Next, Room}
+use Rattle.runlist.specs.Run.{stopBy}
+use Rattle.runlist.proofs.stop_by.Statement.{statement}
+use Rattle.runlist.proofs.stop_by.Tie as tie
 
 returns : tie.Need-returns
 returns c = rw (c .if1 .taken)

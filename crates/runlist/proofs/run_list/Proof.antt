@@ -17,15 +17,15 @@ use Rattle.lent.proofs.Round.{state-round}
 use Rattle.instant.specs.Standing.{stateIn}
 use Rattle.instant.proofs.Written.{after-lawful}
 use Rattle.journal.specs.Instants.{inputsIn, inputLists}
-use Rattle.run.specs.Run.{goesOn, runFrom}
-use Rattle.run.specs.Advance.{RanTo}
+use Rattle.runlist.specs.Run.{goesOn, runFrom}
+use Rattle.runlist.specs.Advance.{RanTo}
 use Rattle.history.proofs.FromStanding.{inside}
 use Rattle.history.proofs.FromStanding as from
-use Rattle.run.proofs.Took.{goes-not, not-goes, took-fits}
+use Rattle.runlist.proofs.Took.{goes-not, not-goes, took-fits}
 use Rattle.history.proofs.Reading.{Reading, reading-none, Next, reading-next, reading-end}
-use Rattle.run.proofs.Runs.{Half, room-is, put-back, half-none, half-more, half-stopped, half-ended}
-use Rattle.run.proofs.run_list.Statement.{statement}
-use Rattle.run.proofs.run_list.Tie as tie
+use Rattle.runlist.proofs.Runs.{Half, room-is, put-back, half-none, half-more, half-stopped, half-ended}
+use Rattle.runlist.proofs.run_list.Statement.{statement}
+use Rattle.runlist.proofs.run_list.Tie as tie
 
 abbrev Inv-loop : tie.InvT-loop
 Inv-loop score head inputs journal₀ stands₀ instants₀ at₀ filled₀ journal stands instants at filled =

@@ -22,11 +22,11 @@ use Rattle.journal.specs.History.{instantWords, entry}
 use Rattle.history.specs.declared.Step.{Step}
 use Rattle.history.specs.Stepped.{Stepped}
 use Rattle.history.proofs.FromStanding.{words-are}
-use Rattle.run.specs.declared.Stop.{Stop}
-use Rattle.run.specs.declared.Stop.the-variants.{Not, Next, Room}
-use Rattle.run.specs.declared.Taken.{Taken}
-use Rattle.run.specs.Run.{stopBy, goesOn, stopAt}
-use Rattle.run.specs.Advance.{Advanced}
+use Rattle.runlist.specs.declared.Stop.{Stop}
+use Rattle.runlist.specs.declared.Stop.the-variants.{Not, Next, Room}
+use Rattle.runlist.specs.declared.Taken.{Taken}
+use Rattle.runlist.specs.Run.{stopBy, goesOn, stopAt}
+use Rattle.runlist.specs.Advance.{Advanced}
 
 module _ (score : List ℕ) (p : Playable score) (st : State) (inputs : List ℕ) (s : Step) (is : Stepped score (answer (decode score) st inputs) s) where
   abbrev a : Answer

@@ -12,9 +12,9 @@ use Rattle.lent.specs.States.{asBytes}
 use Rattle.journal.specs.History.{entry, history, Rising}
 use Rattle.history.specs.AnswerIn.{answerIn}
 use Rattle.history.proofs.Stands.{Stands, instant-entry, instant-stands}
-use Rattle.run.specs.declared.Stop.{Stop}
-use Rattle.run.specs.declared.Stop.the-variants.{Not, Next, Room}
-use Rattle.run.specs.Run.{stopAt, Ran, unlessStopped, runFrom}
+use Rattle.runlist.specs.declared.Stop.{Stop}
+use Rattle.runlist.specs.declared.Stop.the-variants.{Not, Next, Room}
+use Rattle.runlist.specs.Run.{stopAt, Ran, unlessStopped, runFrom}
 
 module _ (score : List ℕ) (law : Lawful (decode score)) (counted : length (decode score .agents) ≡ sizes score .agents) where
   pub run-history : (lists : List (List ℕ)) → Within (Rising (decode score .tokens)) lists → (state : List ℕ) (st : State) → Stands score law counted state st → (room : ℕ) →
