@@ -34,10 +34,10 @@ use Rattle.form.specs.declared.Form.the-variants.{Good}
 use Rattle.form.specs.Form.{mayFollow, firstAgainst, formOf}
 use Rattle.parts.specs.Instants.{upTo, instantsIn, tokensOf, inputLists}
 use Rattle.journal.specs.History.{instantWords}
-use Rattle.history.specs.declared.Stop.{Stop}
-use Rattle.history.specs.declared.Stop.the-variants.{Not, Room}
-use Rattle.history.specs.Run.{Ran}
-use Rattle.history.specs.RunCall as run
+use Rattle.runlist.specs.declared.Stop.{Stop}
+use Rattle.runlist.specs.declared.Stop.the-variants.{Not, Room}
+use Rattle.runlist.specs.Run.{Ran}
+use Rattle.run.specs.RunCall as run
 use Rattle.cases.specs.Cases.{bytes, turned-down, Holds, sample, state-with, input-with, listed, printed, Marked}
 use Rattle.cases.proofs.Runs.{playOn, exit-plays}
 

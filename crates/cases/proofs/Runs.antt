@@ -14,11 +14,11 @@ use Rattle.tcc.specs.Lawful.{Lawful}
 use Rattle.tcc.specs.Instant.{State, answer, after}
 use Rattle.tcc.proofs.Sets.{Within}
 use Rattle.format.specs.Decode.{sizes, decode}
-use Rattle.format.proofs.Decode.{decode-agents, decode-tokens, sizes-few}
+use Rattle.format.proofs.Decode.{decode-tokens, sizes-few, playable-agents}
 use Rattle.verdicts.specs.Verdicts.{numberOf}
 use Rattle.scorefile.specs.Check.{verdict}
 use Rattle.verdicts.proofs.Verdicts.{accepted-only}
-use Rattle.scorefile.proofs.Lawful.{accepted-lawful, accepted-faultless}
+use Rattle.scorefile.proofs.Stages.{playable}
 use Rattle.lent.specs.States.{asBytes, LawfulState}
 use Rattle.lent.proofs.Round.{asBytes-length, lawful-bytes}
 use Rattle.form.specs.declared.Form.the-variants.{Good}
@@ -26,10 +26,10 @@ use Rattle.form.specs.Form.{formOf}
 use Rattle.parts.specs.Instants.{inputLists}
 use Rattle.journal.specs.History.{entry, Rising}
 use Rattle.journal.proofs.Forms.{good-inputs}
-use Rattle.history.specs.declared.Stop.the-variants.{Not, Room}
-use Rattle.history.specs.Run.{stopAt, Ran, stopped, unlessStopped, runFrom}
-use Rattle.history.specs.RunCall.{lent, ended, exit}
-use Rattle.history.proofs.Exact.{written-stands, instant-entry, after-bytes, next-lawful, instant-lawful}
+use Rattle.runlist.specs.declared.Stop.the-variants.{Not, Room}
+use Rattle.runlist.specs.Run.{stopAt, Ran, stopped, unlessStopped, runFrom}
+use Rattle.run.specs.RunCall.{lent, ended, exit}
+use Rattle.history.proofs.Stands.{written-stands, instant-entry, after-bytes, next-lawful, instant-lawful}
 
 unfoldable pub playOn : Score → State → ℕ → List (List ℕ) → Ran
 playOn sc st room [] = stopped (asBytes st) Not
@@ -40,10 +40,10 @@ playOn sc st room (inputs ∷ more) =
 
 module _ (score : List ℕ) (accepted : numberOf (verdict score) ≡ 0) where
   law : Lawful (decode score)
-  law = accepted-lawful score (accepted-only (verdict score) accepted)
+  law = playable score accepted .lawful
 
   counted : length (decode score .agents) ≡ sizes score .agents
-  counted = let f = accepted-faultless score (accepted-only (verdict score) accepted) in decode-agents score (omega (arith, f .enough))
+  counted = playable-agents score (playable score accepted)
 
   pub run-plays : (lists : List (List ℕ)) → Within (Rising (decode score .tokens)) lists → (st : State) → LawfulState (length (decode score .agents)) st → (room : ℕ) →
       runFrom score (asBytes st) room lists ≡ playOn (decode score) st room lists
@@ -57,7 +57,7 @@ module _ (score : List ℕ) (accepted : numberOf (verdict score) ≡ 0) where
       rw (instant-lawful score law counted s inputs h, instant-entry score law counted s inputs, after-bytes score law counted s inputs, rest)
 
   pub exit-plays : (inputs journal scratch : List ℕ) (st : State) → LawfulState (sizes score .agents) st → length scratch ≡ 2048 → formOf false (sizes score .tokens) inputs ≡ Good →
-      exit score inputs (lent (asBytes st) journal scratch) ≡ ended journal (playOn (decode score) st (length journal) (inputLists inputs))
+      exit score inputs (lent (asBytes st) journal scratch) ≡ ended (lent (asBytes st) journal scratch) (playOn (decode score) st (length journal) (inputLists inputs))
   unfolding exit
   exit-plays inputs journal scratch st lawful long good =
       let rising : Within (Rising (decode score .tokens)) (inputLists inputs) = λ l m. subst (λ t. Rising t l) (sym (decode-tokens score)) (good-inputs false (sizes score .tokens) inputs good l m) in

@@ -27,7 +27,7 @@ use Rattle.lent.specs.Lengths.{mapBytes, scratchBytes, noScratch}
 use Rattle.instant.specs.InstantCall.{Exit, lent, exit}
 use Rattle.history.specs.declared.Reply.{Reply as RunReply}
 use Rattle.history.specs.declared.Reply.the-variants as run-reply
-use Rattle.history.specs.RunCall as run
+use Rattle.run.specs.RunCall as run
 
 abbrev pub bytes : List ℕ → List ℕ
 bytes [] = []

@@ -17,12 +17,12 @@ use Rattle.tcc.specs.Lawful.{Lawful}
 use Rattle.tcc.specs.Instant.{Answer, answer, after}
 use Rattle.tcc.proofs.Sets.{any-some}
 use Rattle.format.specs.Decode.{sizes, decode}
-use Rattle.format.proofs.Decode.{decode-agents, decode-tokens, sizes-few}
+use Rattle.format.proofs.Decode.{decode-tokens, sizes-few, playable-agents}
 use Rattle.verdicts.specs.Verdicts.{numberOf}
 use Rattle.scorefile.specs.Check.{verdict}
 use Rattle.verdicts.proofs.Verdicts.{accepted-only}
 use Rattle.faults.proofs.Accepted.{none-above}
-use Rattle.scorefile.proofs.Lawful.{accepted-lawful, accepted-faultless}
+use Rattle.scorefile.proofs.Stages.{playable}
 use Rattle.lent.specs.Maps.{tokensIn}
 use Rattle.lent.specs.States.{stateFault, stateOf, asBytes, LawfulState}
 use Rattle.lent.proofs.Round.{faultless-lawful}
@@ -48,10 +48,10 @@ module _ (score : List ℕ) where
 
 module _ (score : List ℕ) (accepted : numberOf (verdict score) ≡ 0) where
   pub lawful : Lawful (decode score)
-  lawful = accepted-lawful score (accepted-only (verdict score) accepted)
+  lawful = playable score accepted .lawful
 
   pub agents-counted : length (decode score .agents) ≡ sizes score .agents
-  agents-counted = let f = accepted-faultless score (accepted-only (verdict score) accepted) in decode-agents score (omega (arith, f .enough))
+  agents-counted = playable-agents score (playable score accepted)
 
   module _ (s : List ℕ) (faultless : stateFault (sizes score .agents) s ≡ false) where
     pub state-lawful : LawfulState (length (decode score .agents)) (stateOf s)

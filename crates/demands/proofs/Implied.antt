@@ -29,8 +29,8 @@ use Rattle.lent.proofs.Round.{state-round}
 use Rattle.lent.proofs.SameState.{state-running}
 use Rattle.instant.specs.InstantCall.{Lent}
 use Rattle.parts.specs.Instants.{inputLists}
-use Rattle.history.specs.RunCall.{Lent as RunLent}
 use Rattle.answer.specs.Answer.{numberIn, valueIn}
+use Rattle.run.specs.RunCall.{Lent as RunLent}
 use Rattle.score.specs.ScoreInstant.{ScoreInstant}
 use Rattle.score.specs.ScoreRun.{ScoreRun}
 use Rattle.demands.specs.Calls.{Call, instant, run, InTurn, Answered, answeredBy, written, Plays, Answers, one, refused, those}

@@ -18,7 +18,7 @@ use Rattle.scorefile.specs.Check as check
 use Rattle.words.specs.Word.{words}
 use Rattle.bits.specs.Bits.{bytesOf}
 use Rattle.lent.specs.States.{stateFault, asBytes, LawfulState}
-use Rattle.lent.specs.Lengths.{scratchBytes}
+use Rattle.lent.specs.Lengths.{scratchBytes, noScratch}
 use Rattle.form.specs.declared.Form.{Form}
 use Rattle.form.specs.declared.Form.the-variants.{Good, Bytes, Word}
 use Rattle.form.specs.Form.{formOf}
@@ -28,11 +28,14 @@ use Rattle.journal.proofs.Forms.{good-whole, good-instants, good-words, bytes-w
 use Rattle.journal.proofs.Histories.{history-joined, history-good, history-instants}
 use Rattle.history.specs.declared.Reply.{Reply}
 use Rattle.history.specs.declared.Reply.the-variants.{Unlawful, Differs, Accepted}
-use Rattle.history.specs.Run.{answerIn, same, checkFrom}
-use Rattle.history.specs.JournalCheckCall.{byForm, exit}
-use Rattle.history.proofs.Exact.{Stands, written-stands, check-entries, check-exact}
 use Rattle.answer.specs.Answer.{numberOf, valueOf}
 use Rattle.answer.specs.Replies.{ofRunReply}
+use Rattle.history.specs.AnswerIn.{answerIn}
+use Rattle.history.specs.ByForm.{byForm}
+use Rattle.journalcheck.specs.Check.{same, checkFrom}
+use Rattle.journalcheck.specs.JournalCheckCall.{left, checked, exit}
+use Rattle.history.proofs.Stands.{Stands, written-stands}
+use Rattle.journalcheck.proofs.Exact.{check-entries, check-exact}
 use Rattle.score.specs.Slice.{Slice}
 use Rattle.demands.proofs.Accepted.{lawful, agents-counted}
 
@@ -62,15 +65,11 @@ module _ (score : List ℕ) (accepted : verdicts.numberOf (check.verdict score) 
       (on-cons (law .roots-known 0 (law .some-roots)) (λ i m. absurd (List·Memᴰ·not-nil m)))
 
   module _ (journal scratch : List ℕ) (long : length scratch ≡ scratchBytes) where
-    checked : Reply
-    checked = checkFrom score (asBytes (startState (decode score))) 0 (instantsIn (words journal))
-
-    check-reply : exit score journal scratch .reply ≡ byForm (formOf true (sizes score .tokens) journal) scratch checked .reply
-    unfolding exit checked
+    check-reply : exit score journal scratch .reply ≡ byForm (formOf true (sizes score .tokens) journal) (left scratch) (left noScratch (checked score journal)) .reply
+    unfolding exit
     check-reply = rw (accepted, long)
 
     pub history-accepted : (n : ℕ) → IsHistory (decode score) (startState (decode score)) journal n → exit score journal scratch .reply ≡ Accepted n
-    unfolding checked
     history-accepted n h =
         let sc = decode score in
         let law = lawful score accepted in
@@ -78,21 +77,20 @@ module _ (score : List ℕ) (accepted : verdicts.numberOf (check.verdict score) 
         ap₂ (formOf true) (sym (decode-tokens score)) (h .is) ∙ history-good sc law (startState sc) (h .inputs) (h .rising) in
         let read = ap (λ x. instantsIn (words x)) (h .is) ∙ history-instants sc law (startState sc) (h .inputs) (h .rising) in
         check-reply
-        ∙ ap (λ f. byForm f scratch checked .reply) good
+        ∙ ap (λ f. byForm f (left scratch) (left noScratch (checked score journal)) .reply) good
         ∙ ap (checkFrom score (asBytes (startState sc)) 0) read
         ∙ check-entries score law (agents-counted score accepted) (h .inputs) (h .rising) (asBytes (startState sc)) (startState sc) start-stands 0
         ∙ ap Accepted (omega (arith, h .instants))
 
     pub accepted-history : Slice journal → (n : ℕ) → numberOf (ofRunReply (exit score journal scratch .reply)) ≡ 0 → valueOf (ofRunReply (exit score journal scratch .reply)) ≡ n → IsHistory (decode score) (startState (decode score)) journal n
-    unfolding checked
     accepted-history lent n z v =
         go (formOf true (sizes score .tokens) journal) refl (ap (λ r. numberOf (ofRunReply r)) (sym check-reply) ∙ z) (ap (λ r. valueOf (ofRunReply r)) (sym check-reply) ∙ v)
       where
-        is-history : formOf true (sizes score .tokens) journal ≡ Good → checked ≡ Accepted n → IsHistory (decode score) (startState (decode score)) journal n
+        is-history : formOf true (sizes score .tokens) journal ≡ Good → checked score journal ≡ Accepted n → IsHistory (decode score) (startState (decode score)) journal n
         is-history g e =
             let sc = decode score in
             let instants = instantsIn (words journal) in
-            let rising : Within (λ ws. Rising (sc .tokens) (inputsIn ws)) instants = λ ws m. subst⁻¹ (λ t. Rising t (inputsIn ws)) (decode-tokens score) (good-instants true (sizes score .tokens) journal g (lent .small) ws m .inputs) in
+            let rising : Within (λ ws. Rising (sc .tokens) (inputsIn ws)) instants = λ ws m. subst⁻¹ (λ t. Rising t (inputsIn ws)) (decode-tokens score) (good-instants true (sizes score .tokens) journal g (lent .small) ws m .formed .inputs) in
             let x = check-exact score (lawful score accepted) (agents-counted score accepted) instants rising (asBytes (startState sc)) (startState sc) start-stands 0 n e in
             record {
               inputs = map inputsIn instants;
@@ -104,7 +102,7 @@ module _ (score : List ℕ) (accepted : verdicts.numberOf (check.verdict score) 
             }
 
         go : (f : Form) → formOf true (sizes score .tokens) journal ≡ f →
-            numberOf (ofRunReply (byForm f scratch checked .reply)) ≡ 0 → valueOf (ofRunReply (byForm f scratch checked .reply)) ≡ n → IsHistory (decode score) (startState (decode score)) journal n
+            numberOf (ofRunReply (byForm f (left scratch) (left noScratch (checked score journal)) .reply)) ≡ 0 → valueOf (ofRunReply (byForm f (left scratch) (left noScratch (checked score journal)) .reply)) ≡ n → IsHistory (decode score) (startState (decode score)) journal n
         go Good g z v = is-history g (zero-accepted score (asBytes (startState (decode score))) 0 (instantsIn (words journal)) z ∙ ap Accepted v)
         go Bytes g z v = absurd (omega arith)
         go (Word k) g z v = absurd (omega arith)

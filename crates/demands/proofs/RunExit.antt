@@ -29,14 +29,16 @@ use Rattle.parts.specs.Instants.{inputLists}
 use Rattle.journal.specs.History.{entry, Rising}
 use Rattle.journal.proofs.Forms.{good-inputs}
 use Rattle.journal.proofs.Rising.{rising-below}
-use Rattle.history.specs.declared.Stop.the-variants.{Not, Next, Room}
+use Rattle.runlist.specs.declared.Stop.the-variants.{Not, Next, Room}
 use Rattle.history.specs.declared.Reply.{Reply}
 use Rattle.history.specs.declared.Reply.the-variants.{Score as Turned, Lengths, State, Bytes as NoWords, Word as Against}
-use Rattle.history.specs.Run.{answerIn, stopAt, Ran, unlessStopped, runFrom}
-use Rattle.history.specs.RunCall.{Lent, Exit, lengthFault, kept, ended, byForm, exit}
 use Rattle.answer.specs.Answer.{numberOf}
 use Rattle.answer.specs.Replies.{ofRunReply}
 use Rattle.answer.proofs.Replies.{reply-number}
+use Rattle.history.specs.AnswerIn.{answerIn}
+use Rattle.history.specs.ByForm.{byForm}
+use Rattle.runlist.specs.Run.{stopAt, Ran, unlessStopped, runFrom}
+use Rattle.run.specs.RunCall.{Lent, Exit, lengthFault, kept, ended, exit}
 use Rattle.demands.proofs.Tests.{by-test}
 use Rattle.demands.proofs.Accepted.{given, next-faultless}
 
@@ -54,7 +56,7 @@ ranOn score inputs l = runFrom score (l .state) (length (l .journal)) (inputList
 
 pub data Outcome (score inputs : List ℕ) (l : Lent) : Exit → Type 0 where
   refuses : (r : Reply) → (numberOf (ofRunReply r) ≡ 0 → ⊥) → (numberOf (ofRunReply r) ≡ 11 → ⊥) → (numberOf (ofRunReply r) ≡ 15 → ⊥) → Outcome score inputs l (kept l r)
-  runs : Fit score inputs l → (ranOn score inputs l .stop ≡ Next → ⊥) → Outcome score inputs l (ended (l .journal) (ranOn score inputs l))
+  runs : Fit score inputs l → (ranOn score inputs l .stop ≡ Next → ⊥) → Outcome score inputs l (ended l (ranOn score inputs l))
 
 -- no instant is stopped by 11
 module _ (score : List ℕ) (accepted : verdicts.numberOf (check.verdict score) ≡ 0) where
@@ -87,7 +89,7 @@ module _ (score inputs : List ℕ) (l : Lent) where
       let m = reply-number (verdicts.numberOf v) (verdicts.valueOf v) in
       refuses (Turned v) (λ e. n (sym m ∙ e)) (λ e. omega (arith, number-few v, m)) (λ e. omega (arith, number-few v, m))
 
-  formed : (f : Form) → formOf false (sizes score .tokens) inputs ≡ f → (f ≡ Good → Outcome score inputs l (ended (l .journal) (ranOn score inputs l))) → Outcome score inputs l (byForm f l (ended (l .journal) (ranOn score inputs l)))
+  formed : (f : Form) → formOf false (sizes score .tokens) inputs ≡ f → (f ≡ Good → Outcome score inputs l (ended l (ranOn score inputs l))) → Outcome score inputs l (byForm f (kept l) (ended l (ranOn score inputs l)))
   formed Good e good = good refl
   formed Bytes e good = refuses NoWords (λ z. omega arith) (λ z. omega arith) (λ z. omega arith)
   formed (Word k) e good = refuses (Against k) (λ z. omega arith) (λ z. omega arith) (λ z. omega arith)

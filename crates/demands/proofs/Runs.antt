@@ -20,14 +20,15 @@ use Rattle.bits.specs.Bits.{bytesOf}
 use Rattle.lent.specs.States.{asBytes}
 use Rattle.parts.specs.Instants.{inputLists}
 use Rattle.journal.specs.History.{entry}
-use Rattle.history.specs.declared.Stop.{Stop}
-use Rattle.history.specs.declared.Stop.the-variants.{Not, Next, Room}
-use Rattle.history.specs.Run.{answerIn, stopAt, Ran, unlessStopped, runFrom}
-use Rattle.history.specs.RunCall.{ending, ended}
-use Rattle.history.specs.RunCall as run
 use Rattle.answer.specs.Answer.{numberOf, valueOf, numberIn, valueIn}
 use Rattle.answer.specs.Replies.{ofRunReply}
 use Rattle.score.specs.ScoreRun.{ScoreRun}
+use Rattle.runlist.specs.declared.Stop.{Stop}
+use Rattle.runlist.specs.declared.Stop.the-variants.{Not, Next, Room}
+use Rattle.history.specs.AnswerIn.{answerIn}
+use Rattle.runlist.specs.Run.{stopAt, Ran, unlessStopped, runFrom}
+use Rattle.run.specs.RunCall.{ending, ended}
+use Rattle.run.specs.RunCall as run
 use Rattle.score.proofs.ScoreRun.{read}
 use Rattle.demands.specs.Calls.{Answered, written, Plays, none, then}
 use Rattle.demands.specs.Determinacy.{shownBy, Shows}
@@ -87,7 +88,7 @@ not-eleven n Room h e = omega arith
 -- a run that was refused, or one that ran
 pub data Ended (score inputs : List ℕ) (l m : run.Lent) (a : ℕ) : Type 0 where
   refused : written a ≡ 0 → m ≡ l → Ended score inputs l m a
-  ran : run-exit.Fit score inputs l → written a ≡ ranOn score inputs l .instants → m ≡ ended (l .journal) (ranOn score inputs l) .lent → Ended score inputs l m a
+  ran : run-exit.Fit score inputs l → written a ≡ ranOn score inputs l .instants → m ≡ ended l (ranOn score inputs l) .lent → Ended score inputs l m a
 
 module _ {score inputs : List ℕ} {l m : run.Lent} {a : ℕ} (c : ScoreRun score inputs l m a) where
   number-is : (e : run.Exit) → run.exit score inputs l ≡ e → numberIn a ≡ numberOf (ofRunReply (e .reply))

@@ -32,8 +32,8 @@ use Rattle.lent.specs.States.{agentsIn, stateOf}
 use Rattle.parts.specs.Instants.{inputLists}
 use Rattle.journal.specs.History.{instantWords}
 use Rattle.instant.specs.InstantCall.{Lent}
-use Rattle.history.specs.RunCall.{Lent as RunLent}
 use Rattle.answer.specs.Answer.{numberIn}
+use Rattle.run.specs.RunCall.{Lent as RunLent}
 use Rattle.demands.specs.Calls.{Call, instant, run, InTurn, Answered, written, Plays, Answers}
 
 abbrev pub Running : List ℕ → Type 0

@@ -2,6 +2,7 @@
 --     decode-agent       agent i is that of word 2 + i
 --     decode-root        the root of procedure p stands in word 2 + N + p
 --     decode-agents      where the words are there, N agents
+--     playable-agents    so of a playable score
 --     decode-roots       and P procedures
 --     decode-tokens, decode-lowest, decode-highest     T, and the ports of word 1
 --     decode-rules       the words past the procedures are the rules
@@ -21,6 +22,7 @@ use Rattle.words.specs.Word.{field, words, wordAt}
 use Rattle.words.proofs.Field.{field-below}
 use Rattle.format.specs.Format.{agentOf, ruleOf, decodeAgent}
 use Rattle.format.specs.Decode.{sizes, decode}
+use Rattle.format.specs.Playable.{Playable}
 
 -- entry i of n words from word k on
 part-at : (s : List ℕ) (k n i : ℕ) → i < n → getD (take n (drop k (words s))) i 0 ≡ wordAt s (k + i)
@@ -54,6 +56,9 @@ decode-root s p h =
 pub decode-agents : (s : List ℕ) → 2 + sizes s .agents ≤ length (words s) → length (decode s .agents) ≡ sizes s .agents
 unfolding decode
 decode-agents s h = length-map (take (sizes s .agents) (drop 2 (words s))) agentOf ∙ part-length s 2 (sizes s .agents) h
+
+pub playable-agents : (s : List ℕ) → Playable s → length (decode s .agents) ≡ sizes s .agents
+playable-agents s p = decode-agents s (omega (arith, p .whole))
 
 pub decode-roots : (s : List ℕ) → 2 + sizes s .agents + sizes s .procedures ≤ length (words s) → length (decode s .roots) ≡ sizes s .procedures
 unfolding decode

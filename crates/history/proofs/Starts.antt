@@ -14,9 +14,9 @@ use Rattle.tcc.specs.Score.{rootOf}
 use Rattle.tcc.specs.Instant.{running, startState}
 use Rattle.tcc.proofs.Sets.{on-cons}
 use Rattle.format.specs.Decode.{sizes, decode}
-use Rattle.format.proofs.Decode.{decode-agents, sizes-few}
+use Rattle.format.proofs.Decode.{playable-agents, sizes-few}
 use Rattle.store.specs.Flags.{setOf, flagsOf}
-use Rattle.store.specs.Playable.{Playable}
+use Rattle.format.specs.Playable.{Playable}
 use Rattle.store.proofs.Flags.{set-here, set-cases, setOf-none, flags-settled}
 use Rattle.lent.specs.States.{stateOf, asBytes, LawfulState}
 use Rattle.lent.proofs.Round.{state-round, asBytes-same, lawful-bytes, faultless-lawful}
@@ -33,11 +33,8 @@ module _ (score : List ℕ) (p : Playable score) where
   abbrev root : ℕ
   root = rootOf (decode score) 0
 
-  agents-are : length (decode score .agents) ≡ sizes score .agents
-  agents-are = decode-agents score (omega (arith, p .whole))
-
   pub root-known : root < sizes score .agents
-  root-known = omega (arith, p .lawful .roots-known 0 (p .lawful .some-roots), agents-are)
+  root-known = omega (arith, p .lawful .roots-known 0 (p .lawful .some-roots), playable-agents score p)
 
   root-lawful : (n : ℕ) → sizes score .agents ≤ n → LawfulState n (startState (decode score))
   unfolding LawfulState

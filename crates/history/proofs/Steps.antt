@@ -2,7 +2,7 @@
 --     same-running       bytes that stand for running agents stand for their flags
 --     stands-after       where the score stands after an answer is what the bytes of its next state stand for
 --     stands-lawful      and it is a lawful state
---     entry-flags        the words of the instant, by the flags of its inputs and outputs
+--     output-so          what goes to the ports, by the flags of its store
 --     never-unlawful     number 11 is not met
 use mathlib.Core.Path.{_≡_, refl, sym, ap, ap₂, subst, subst⁻¹, _∙_}
 use mathlib.Core.Bool.{Bool, true, false, cond, not}
@@ -24,8 +24,7 @@ use Rattle.bits.proofs.Filled.{from-none}
 use Rattle.lent.proofs.Round.{state-round, faultless-lawful}
 use Rattle.standing.specs.Standing.{stateIn}
 use Rattle.standing.proofs.Inside.{Inside, flags-back, flags-known, next-lawful}
-use Rattle.journal.specs.History.{instantWords, entry}
-use Rattle.journal.proofs.Rising.{output-rising, output-same, rising-set}
+use Rattle.journal.proofs.Rising.{output-same}
 
 same-aborted : (st : State) → SameState st aborted → st ≡ aborted
 unfolding SameState
@@ -60,13 +59,8 @@ module _ (sc : Score) (a : Answer) (few : length (sc .agents) ≤ 1024) (inside 
       go true = sym (same-aborted _ (state-round aborted aborted-within))
       go false = sym (same-running (asBytes (running (a .awake))) (a .awake) (state-round (running (a .awake)) awake-within))
 
-  pub entry-flags : Lawful sc → (inputs : List ℕ) →
-      instantWords (a .status) inputs (setOf (flagsOf 256 (output sc (a .status) (setOf (flagsOf 256 (a .store)))))) ≡ entry sc inputs a
-  entry-flags law inputs =
-      let known = flags-back 256 (a .store) (λ t m. omega (arith, inside .tokens t m, law .most-tokens)) in
-      ap (instantWords (a .status) inputs)
-      (rising-set 256 (sc .tokens) _ (law .most-tokens) (output-rising sc (a .status) (setOf (flagsOf 256 (a .store))) (law .ports-ordered) (law .ports-known))
-      ∙ output-same sc (a .status) known)
+  pub output-so : Lawful sc → output sc (a .status) (setOf (flagsOf 256 (a .store))) ≡ output sc (a .status) (a .store)
+  output-so law = output-same sc (a .status) (flags-back 256 (a .store) (λ t m. omega (arith, inside .tokens t m, law .most-tokens)))
 
   -- both tests of number 11, by flags and by bytes
   pub never-unlawful : (n : ℕ) → length (sc .agents) ≡ n → any (λ i. leb n i) (setOf (flagsOf 1024 (a .awake))) ≡ stateFault n (asBytes (after a))

@@ -1,5 +1,3 @@
-pub mod Run
-pub mod RunCall
-pub mod Advance
-pub mod Held
-pub mod JournalCheckCall
+pub mod AnswerIn
+pub mod ByForm
+pub mod Stepped

@@ -1,49 +1,83 @@
 -- The call's exits, one for each reply.
 --     turned, lengths, state, input, settled
-use mathlib.Core.Path.{_≡_, refl, sym, ap, _∙_}
-use mathlib.Core.Bool.{Bool, true, false, not, _||_, true≢false}
-use mathlib.Core.List.{List}
-use Prim.Native.Nat.{ℕ}
-use borrow.Author.Tests.{eq-eqb, ne-eqb}
+--     handed           an answer handed over leaves as it says
+--     Lengths-are      the five lengths, where none is wrong
+use mathlib.Core.Path.{_≡_, ap, _∙_}
+use mathlib.Core.Bool.{true, false, cond, not}
+use mathlib.Core.List.{List, _∷_}
+use Prim.Native.Nat.{ℕ, _≤_}
+use borrow.Author.Tests.{eqb-true, not-false}
 use lib.Dec.{eqb}
 use lib.ListN.{length}
-use Rattle.tcc.specs.Instant.{Answer, answer, after}
+use Rattle.tcc.specs.Score.{Score}
+use Rattle.tcc.specs.Instant.{Answer, output, answer, after}
+use Rattle.tcc.proofs.Tests.{cond-true, cond-false}
 use Rattle.format.specs.Decode.{sizes, decode}
 use Rattle.scorefile.specs.Check.{verdict}
-use Rattle.lent.specs.Lengths.{stateBytes, mapBytes, scratchBytes}
-use Rattle.lent.specs.Maps.{tokensIn}
-use Rattle.lent.specs.States.{stateFault, stateOf, asBytes}
+use Rattle.lent.specs.Lengths.{stateBytes, mapBytes, scratchBytes, noScratch}
+use Rattle.lent.specs.Maps.{tokensIn, mapOf}
+use Rattle.lent.specs.States.{stateFault, stateOf, asBytes, runningWord, abortedWord, agentWords}
 use Rattle.verdicts.specs.declared.Verdict.{Verdict}
 use Rattle.verdicts.specs.Verdicts.{numberOf}
 use Rattle.faults.proofs.Accepted.{neither}
 use Rattle.lent.proofs.Lengths.{right}
-use Rattle.instant.specs.declared.Reply.the-variants.{Score as Turned, Lengths, State, Input}
-use Rattle.instant.specs.InstantCall.{Lent, Exit, lengthFault, tokenFault, kept, answered, exit}
+use Rattle.instant.specs.declared.Reply.the-variants.{Score as Turned, Lengths, State, Input, Next, Settled}
+use Rattle.instant.specs.InstantCall.{Lent, Exit, lengthFault, tokenFault, kept, answered, exit, lent, cleared, played}
+use Rattle.scorefile.proofs.Stages.{passed}
+use Rattle.scorefile.proofs.Stages as stages
+use Rattle.store.specs.Flags.{setOf}
+use Rattle.engine.specs.declared.Outcome.{Outcome}
+use Rattle.engine.specs.Outcome.{outcomeOf}
+use Rattle.bits.specs.Bits.{bytesOf}
+use Rattle.instant.specs.HandedOver.{HandedOver}
+use Rattle.standing.proofs.Inside.{Inside}
+use Rattle.instant.proofs.Written.{state-written, store-written, output-written}
 
 module _ (score given : List ℕ) (l : Lent) where
-  pub turned : (v : Verdict) → v ≡ verdict score → (numberOf v ≡ 0 → ⊥) → kept l (Turned v) ≡ exit score given l
+  abbrev down : Verdict → Exit
+  down v = kept l (Turned v)
+
+  pub turned : {v : Verdict} {n : ℕ} → n ≡ numberOf v → v ≡ verdict score → (n ≡ 0 → ⊥) → kept l (Turned v) ≡ exit score given l
   unfolding exit
-  turned v e n = rw (← e, ne-eqb (numberOf v) 0 n)
+  turned number-is is not-zero = stages.turned score number-is is down _ not-zero
 
   module _ (accepted : numberOf (verdict score) ≡ 0) where
     pub lengths : lengthFault given l ≡ true → kept l Lengths ≡ exit score given l
     unfolding exit
-    lengths e = rw (eq-eqb (numberOf (verdict score)) 0 accepted, e)
+    lengths e = cond-true _ _ e ∙ passed score accepted down _
 
     module _ (long : lengthFault given l ≡ false) where
       pub state : stateFault (sizes score .agents) (l .state) ≡ true → kept l State ≡ exit score given l
       unfolding exit
-      state e = rw (eq-eqb (numberOf (verdict score)) 0 accepted, long, e)
+      state e = cond-true _ _ e ∙ cond-false _ _ long ∙ passed score accepted down _
 
       module _ (lawful : stateFault (sizes score .agents) (l .state) ≡ false) where
         pub input : tokenFault score given ≡ true → kept l Input ≡ exit score given l
         unfolding exit
-        input e = rw (eq-eqb (numberOf (verdict score)) 0 accepted, long, lawful, e)
+        input e = cond-true _ _ e ∙ cond-false _ _ lawful ∙ cond-false _ _ long ∙ passed score accepted down _
 
         pub settled : tokenFault score given ≡ false → (a : Answer) → a ≡ answer (decode score) (stateOf (l .state)) (tokensIn given) →
             stateFault (sizes score .agents) (asBytes (after a)) ≡ false → answered (decode score) a ≡ exit score given l
         unfolding exit
-        settled e a i n = rw (eq-eqb (numberOf (verdict score)) 0 accepted, long, lawful, e, ← i, n)
+        settled e a is n =
+            cond-false (cleared l Next) (answered (decode score) a) n ∙ ap (played score l) is
+            ∙ cond-false _ _ e ∙ cond-false _ _ lawful ∙ cond-false _ _ long ∙ passed score accepted down _
+
+-- what handing an outcome over leaves, where it is an answer's
+module _ (sc : Score) (a : Answer) (few : length (sc .agents) ≤ 1024) (known : sc .tokens ≤ 256) (inside : Inside sc a) {o : Outcome} (is : o ≡ outcomeOf a)
+    {state store sent : List ℕ} (h : HandedOver sc o state store sent) where
+  pub handed : {scratch : List ℕ} → scratch ≡ noScratch → {e : Exit} → answered sc a ≡ e → _≡_ {A = Exit} (record { lent = lent state store sent scratch; reply = Settled (o .status) (o .count) }) e
+  unfolding outcomeOf
+  handed z leaves = (λ i. record { lent = lent (state-is i) (store-is i) (sent-is i) (z i); reply = Settled (is i .status) (is i .count) }) ∙ leaves
+    where
+      state-is : state ≡ asBytes (after a)
+      state-is = h .state-is ∙ ap (λ x. bytesOf (cond (eqb (x .status) 2) abortedWord runningWord ∷ agentWords (setOf (x .awake)))) is ∙ state-written sc a few inside
+
+      store-is : store ≡ mapOf (a .store)
+      store-is = h .store-is ∙ ap (λ x. mapOf (setOf (x .store))) is ∙ store-written sc a known inside
+
+      sent-is : sent ≡ mapOf (output sc (a .status) (a .store))
+      sent-is = h .output-is ∙ ap (λ x. mapOf (output sc (x .status) (setOf (x .store)))) is ∙ output-written sc a known inside
 
 -- the five lengths, where none is wrong
 pub record Lengths-are (given : List ℕ) (l : Lent) : Type 0 where

@@ -5,7 +5,7 @@ ghost use lib.ListN.{length};
 ghost use Rattle.tcc.specs.Instant.{answer};
 ghost use Rattle.format.specs.Decode.{sizes, decode};
 ghost use Rattle.store.specs.Flags.{setOf};
-ghost use Rattle.store.specs.Playable.{Playable};
+ghost use Rattle.format.specs.Playable.{Playable};
 ghost use Rattle.engine.specs.Outcome.{outcomeOf};
 ghost use Rattle.lent.specs.Lengths.{stateBytes, mapBytes, scratchBytes};
 ghost use Rattle.lent.specs.States.{runningWord, abortedWord, stateOf};

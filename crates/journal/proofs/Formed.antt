@@ -99,10 +99,12 @@ module _ (T : ℕ) (few : T ≤ 256) where
     words-formed journal h silent =
         let read = status-read s (omega arith) in
         record {
-          is = sym (ap₂ (λ x y. x y) (ap₂ instantWords read words-inputs) words-outputs);
+          formed = record {
+            is = sym (ap₂ (λ x y. x y) (ap₂ instantWords read words-inputs) words-outputs);
+            inputs = subst⁻¹ (Rising T) words-inputs hi;
+            outputs = subst⁻¹ (Rising T) words-outputs ho;
+          };
           status = subst⁻¹ (λ x. x < cond journal 3 1) read h;
-          inputs = subst⁻¹ (Rising T) words-inputs hi;
-          outputs = subst⁻¹ (Rising T) words-outputs ho;
           silent = λ e. words-outputs ∙ silent e;
         }
 
@@ -175,8 +177,8 @@ module _ (journal : Bool) (T : ℕ) (few : T ≤ 256) where
   joined-good [] h k last = refl
   joined-good (e ∷ es) h k last =
       let f = h e (List·Memᴰ·head refl) in
-      subst⁻¹ (λ x. firstAgainst journal T k last (x ++ flatten es) ≡ Good) (f .is)
-      (instant-good (flatten es) (joined-good es (λ x m. h x (List·Memᴰ·tail m))) (tokensOf 14 e) (f .silent) (f .outputs) k last (statusOf (getD e 0 0)) (inputsIn e) (f .status) (f .inputs))
+      subst⁻¹ (λ x. firstAgainst journal T k last (x ++ flatten es) ≡ Good) (f .formed .is)
+      (instant-good (flatten es) (joined-good es (λ x m. h x (List·Memᴰ·tail m))) (tokensOf 14 e) (f .silent) (f .formed .outputs) k last (statusOf (getD e 0 0)) (inputsIn e) (f .status) (f .formed .inputs))
 
 -- ---- the instants in such words
 
@@ -205,8 +207,8 @@ module _ (journal : Bool) (T : ℕ) (few : T ≤ 256) where
   unfolding instantWords
   formed-small {ws} f =
       let hs = few-statuses journal (statusOf (getD ws 0 0)) (f .status) in
-      subst⁻¹ (Within (λ w. w < 2 ^ 32)) (f .is)
-      (on-cons {P = λ w. w < 2 ^ 32} (omega arith) (on-tokens (λ w. w < 2 ^ 32) (λ t h. omega arith) (λ t h. omega arith) (f .inputs) (f .outputs)))
+      subst⁻¹ (Within (λ w. w < 2 ^ 32)) (f .formed .is)
+      (on-cons {P = λ w. w < 2 ^ 32} (omega arith) (on-tokens (λ w. w < 2 ^ 32) (λ t h. omega arith) (λ t h. omega arith) (f .formed .inputs) (f .formed .outputs)))
 
   record Apart (e : List ℕ) (es : List (List ℕ)) : Type 0 where
     starts : upTo (e ++ flatten es) ≡ []
@@ -231,7 +233,7 @@ module _ (journal : Bool) (T : ℕ) (few : T ≤ 256) where
   joined-instants (e ∷ es) h =
       let f = h e (List·Memᴰ·head refl) in
       let later = joined-instants es (λ x m. h x (List·Memᴰ·tail m)) in
-      let a : Apart e es = subst⁻¹ (λ x. Apart x es) (f .is) (words-apart (statusOf (getD e 0 0)) (inputsIn e) (tokensOf 14 e) es (few-statuses journal (statusOf (getD e 0 0)) (f .status)) (f .inputs) (f .outputs) (later .0) (later .1)) in
+      let a : Apart e es = subst⁻¹ (λ x. Apart x es) (f .formed .is) (words-apart (statusOf (getD e 0 0)) (inputsIn e) (tokensOf 14 e) es (few-statuses journal (statusOf (getD e 0 0)) (f .status)) (f .formed .inputs) (f .formed .outputs) (later .0) (later .1)) in
       (a .starts, a .instants)
 
   module _ (es : List (List ℕ)) (formed : Within (WellFormed journal T) es) where

@@ -7,7 +7,7 @@
 --     Part               the words of an instant after such a word: tokens rise, inputs before outputs
 --     good-part          those up to the next instant word
 --     good-inputs        the input tokens of each instant rise
---     WellFormed         the words of one instant, as the form asks
+--     WellFormed         the words of one instant, as the form asks of a list or of a journal
 --     good-instants      those of each instant of a good form
 --     good-whole         a good form has whole words
 --     good-words         the instants of a good form, one after the other, are its words
@@ -31,6 +31,7 @@ use Rattle.form.specs.declared.Form.the-variants.{Good, Bytes, Word}
 use Rattle.form.specs.Form.{tokenOf, statusOf, isInstant, rises, mayFollow, firstAgainst, formOf}
 use Rattle.parts.specs.Instants.{upTo, instantsIn, tokensOf, inputsIn, inputLists}
 use Rattle.journal.specs.History.{instantWord, instantWords, Rising, none, one, more}
+use Rattle.journal.specs.Formed.{Formed}
 
 abbrev pub wordsOf : ℕ → List ℕ → List ℕ
 wordsOf k ws = keep (λ w. eqb (kind w) k) ws
@@ -236,10 +237,8 @@ good-inputs journal T bytes g =
 -- ---- the words themselves
 
 pub record WellFormed (journal : Bool) (T : ℕ) (ws : List ℕ) : Type 0 where
-  pub is : ws ≡ instantWords (statusOf (getD ws 0 0)) (inputsIn ws) (tokensOf 14 ws)
+  pub formed : Formed T ws
   pub status : statusOf (getD ws 0 0) < cond journal 3 1
-  pub inputs : Rising T (inputsIn ws)
-  pub outputs : Rising T (tokensOf 14 ws)
   pub silent : journal ≡ false → tokensOf 14 ws ≡ []
 
 -- a word of 32 bits with no unnamed bit is its kind and its lowest bits
@@ -278,13 +277,15 @@ led-formed {journal} {T} {ws} l = subst⁻¹ (λ x. Within (λ w. w < 2 ^ 32) x 
         let ins : inputsIn (l .word ∷ l .rest) ≡ inputsIn (l .rest) = ap (map tokenOf) (later 13 (λ e. omega arith)) in
         let outs : tokensOf 14 (l .word ∷ l .rest) ≡ tokensOf 14 (l .rest) = ap (map tokenOf) (later 14 (λ e. omega arith)) in
         record {
-          is =
-              ap₂ _∷_ (sym (instant-rebuilt (l .word) (l .form) (small (l .word) (List·Memᴰ·head refl))))
-              (sym (ap₂ _++_ (kind-rebuilt 13 (l .rest) rest-small (p .cleared)) (kind-rebuilt 14 (l .rest) rest-small (p .cleared)) ∙ p .in-order))
-              ∙ sym (ap₂ (instantWords (statusOf (l .word))) ins outs);
+          formed = record {
+            is =
+                ap₂ _∷_ (sym (instant-rebuilt (l .word) (l .form) (small (l .word) (List·Memᴰ·head refl))))
+                (sym (ap₂ _++_ (kind-rebuilt 13 (l .rest) rest-small (p .cleared)) (kind-rebuilt 14 (l .rest) rest-small (p .cleared)) ∙ p .in-order))
+                ∙ sym (ap₂ (instantWords (statusOf (l .word))) ins outs);
+            inputs = subst⁻¹ (Rising T) ins (p .inputs);
+            outputs = subst⁻¹ (Rising T) outs (p .outputs);
+          };
           status = l .status;
-          inputs = subst⁻¹ (Rising T) ins (p .inputs);
-          outputs = subst⁻¹ (Rising T) outs (p .outputs);
           silent = λ e. outs ∙ ap (map tokenOf) (p .silent e);
         }
 

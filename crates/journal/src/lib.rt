@@ -36,14 +36,8 @@ fn count(tokens: usize, set: &[bool]) -> usize
     n
 }
 
-// Writes the words of an instant at the front of a journal that has room for them, and says how many bytes they are.
-pub fn write(
-    journal: &mut [u8],
-    status: usize,
-    tokens: usize,
-    inputs: &[bool],
-    outputs: &[bool],
-) -> usize
+// Writes the words of an instant at the front of a journal that has room for them.
+pub fn write(journal: &mut [u8], status: usize, tokens: usize, inputs: &[bool], outputs: &[bool])
     requires { ⌜ status < 4 ⌝ }
     requires { ⌜ tokens ≤ 256 ⌝ }
     requires { ⌜ tokens ≤ length (now inputs) ⌝ }
@@ -52,13 +46,11 @@ pub fn write(
     requires { ⌜ ((i : ℕ) → tokens ≤ i → getD (now outputs) i false ≡ false) ⌝ }
     requires { ⌜ 4 * length (instantWords status (setOf (now inputs)) (setOf (now outputs))) ≤ length (now journal) ⌝ }
     ensures { λ _. ⌜ now (journal .exit) ≡ bytesOf (instantWords status (setOf (now (inputs .entry))) (setOf (now (outputs .entry)))) ++ drop (4 * length (instantWords status (setOf (now (inputs .entry))) (setOf (now (outputs .entry))))) (now (journal .entry)) ⌝ }
-    ensures { λ r. ⌜ r ≡ 4 * length (instantWords status (setOf (now (inputs .entry))) (setOf (now (outputs .entry)))) ⌝ }
 {
     let first = word_of(12, status);
     bits::put_word(journal, 0, first);
     let middle = put_tokens(journal, 1, 13, tokens, inputs);
-    let end = put_tokens(journal, middle, 14, tokens, outputs);
-    4 * end
+    put_tokens(journal, middle, 14, tokens, outputs);
 }
 
 // Writes a word of a kind for each token of a set, from word `from` on, and says which word comes next.

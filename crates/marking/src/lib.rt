@@ -1,7 +1,7 @@
 ghost use mathlib.Core.Path.{_≡_};
 ghost use lib.ListN.{length};
 ghost use Rattle.format.specs.Decode.{sizes, decode};
-ghost use Rattle.store.specs.Playable.{Playable};
+ghost use Rattle.format.specs.Playable.{Playable};
 ghost use Rattle.marking.specs.Passed.{Passed};
 use format::Sizes;
 use store::Agents;

@@ -11,12 +11,12 @@ use Rattle.verdicts.specs.Verdicts.{numberOf}
 use Rattle.scorefile.specs.Check.{verdict}
 use Rattle.lent.specs.States.{asBytes}
 use Rattle.lent.specs.Lengths.{noScratch}
-use Rattle.history.specs.RunCall.{Lent, lent, Exit, exit}
-use Rattle.history.proofs.RunExits.{turned}
 use Rattle.answer.specs.Answer.{packed, numberIn}
 use Rattle.answer.specs.Replies.{ofRunReply}
 use Rattle.score.specs.ScoreRun.{ScoreRun}
 use Rattle.playing.specs.Played.{fromStart, Played}
+use Rattle.run.specs.RunCall.{Lent, lent, Exit, exit}
+use Rattle.run.proofs.RunExits.{turned}
 
 module _ (score inputs state journal : List ℕ) (starts : numberOf (verdict score) ≡ 0 → state ≡ asBytes (startState (decode score))) where
   abbrev before : Lent
@@ -34,8 +34,8 @@ module _ (score inputs state journal : List ℕ) (starts : numberOf (verdict sco
           let s = starts (eqb-true _ 0 e) in
           record { journals = ap (λ x. exit score inputs (lent x journal noScratch) .lent .journal) s; replies = ap (λ x. exit score inputs (lent x journal noScratch) .reply) s }
       go false e =
-          let left = turned score inputs before (verdict score) refl (eqb-false _ 0 e) in
-          let right = turned score inputs (fromStart score journal) (verdict score) refl (eqb-false _ 0 e) in
+          let left = turned score inputs before {v = verdict score} refl refl (eqb-false _ 0 e) in
+          let right = turned score inputs (fromStart score journal) {v = verdict score} refl refl (eqb-false _ 0 e) in
           record {
             journals = sym (ap (λ (x : Exit). x .lent .journal) left) ∙ ap (λ (x : Exit). x .lent .journal) right;
             replies = sym (ap (λ (x : Exit). x .reply) left) ∙ ap (λ (x : Exit). x .reply) right;

@@ -8,7 +8,7 @@ use Rattle.tcc.specs.Instant.{startState}
 use Rattle.format.specs.Decode.{decode}
 use Rattle.lent.specs.States.{asBytes}
 use Rattle.lent.specs.Lengths.{noScratch}
-use Rattle.history.specs.RunCall.{Lent, lent}
+use Rattle.run.specs.RunCall.{Lent, lent}
 use Rattle.answer.specs.Answer.{numberIn}
 use Rattle.score.specs.ScoreRun.{ScoreRun}
 

@@ -16,13 +16,14 @@ use Rattle.verdicts.specs.Verdicts as verdicts
 use Rattle.verdicts.proofs.Verdicts.{number-few}
 use Rattle.scorefile.proofs.Values.{verdict-small}
 use Rattle.history.specs.declared.Reply.{Reply as Replied}
-use Rattle.history.specs.RunCall.{Lent, Exit, exit, RunCall}
-use Rattle.history.proofs.Replies.{Proper, turned, lengths, no-state, unlawful, bytes, word, differs, full, accepted, run-proper}
+use Rattle.history.proofs.Replies.{Proper, turned, lengths, no-state, unlawful, bytes, word, differs, full, accepted}
 use Rattle.answer.specs.Answer.{Fits, packed, Reads}
 use Rattle.answer.specs.Replies.{ofRunReply}
 use Rattle.answer.proofs.Answer.{exact}
 use Rattle.answer.proofs.Replies.{reply-fits}
 use Rattle.score.specs.ScoreRun.{ScoreRun, OneExit}
+use Rattle.run.specs.RunCall.{Lent, Exit, exit, RunCall}
+use Rattle.run.proofs.Replies.{run-proper}
 use Rattle.score.specs.Slice.{Slice}
 
 pub one-exit : OneExit

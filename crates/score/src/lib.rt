@@ -1,8 +1,8 @@
 ghost use Rattle.instant.specs.InstantCall.{lent};
-ghost use Rattle.history.specs.RunCall.{lent as lentToRun};
 ghost use Rattle.score.specs.CheckCall.{CheckCall};
 ghost use Rattle.score.specs.ScoreInstant.{ScoreInstant};
 ghost use Rattle.score.specs.ScoreRun.{ScoreRun};
+ghost use Rattle.run.specs.RunCall.{lent as lentToRun};
 ghost use Rattle.score.specs.ScoreJournalCheck.{ScoreJournalCheck};
 
 // Checks a score.
@@ -39,7 +39,7 @@ pub extern "C" fn score_run(
 ) -> u64
     ensures { λ r. ⌜ ScoreRun (now (score .entry)) (now (inputs .entry)) (lentToRun (now (state .entry)) (now (journal .entry)) (now (scratch .entry))) (lentToRun (now (state .exit)) (now (journal .exit)) (now (scratch .exit))) r ⌝ }
 {
-    answer::of_run_reply(history::run(score, state, inputs, journal, scratch))
+    answer::of_run_reply(run::call(score, state, inputs, journal, scratch))
 }
 
 // Checks a journal from the start state.
@@ -47,5 +47,5 @@ pub extern "C" fn score_run(
 pub extern "C" fn score_journal_check(score: &[u8], journal: &[u8], scratch: &mut [u8]) -> u64
     ensures { λ r. ⌜ ScoreJournalCheck (now (score .entry)) (now (journal .entry)) (now (scratch .entry)) (now (scratch .exit)) r ⌝ }
 {
-    answer::of_run_reply(history::journal_check(score, journal, scratch))
+    answer::of_run_reply(journalcheck::call(score, journal, scratch))
 }

@@ -6,7 +6,7 @@ ghost use lib.ListN.{length, getD};
 ghost use Rattle.tcc.specs.Instant.{output, answer};
 ghost use Rattle.format.specs.Decode.{sizes, decode};
 ghost use Rattle.store.specs.Flags.{setOf, flagsOf};
-ghost use Rattle.store.specs.Playable.{Playable};
+ghost use Rattle.format.specs.Playable.{Playable};
 ghost use Rattle.engine.specs.Outcome.{outcomeOf};
 ghost use Rattle.lent.specs.Lengths.{stateBytes};
 ghost use Rattle.lent.specs.States.{asBytes, LawfulState};

@@ -21,7 +21,7 @@ use Rattle.format.specs.Decode.{sizes, decode}
 use Rattle.format.specs.declared.Sizes.{Sizes}
 use Rattle.format.proofs.Decode.{decode-agents, decode-roots}
 use Rattle.store.specs.Flags.{setOf}
-use Rattle.store.specs.Playable.{Playable}
+use Rattle.format.specs.Playable.{Playable}
 use Rattle.store.proofs.Flags.{flag-member, member-flag}
 
 module _ {s : List ℕ} (p : Playable s) where

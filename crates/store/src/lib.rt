@@ -4,7 +4,7 @@ ghost use lib.ListN.{length};
 ghost use Rattle.tcc.specs.Store.{closure};
 ghost use Rattle.format.specs.Decode.{sizes, decode};
 ghost use Rattle.store.specs.Flags.{setOf, flagsOf};
-ghost use Rattle.store.specs.Playable.{Playable};
+ghost use Rattle.format.specs.Playable.{Playable};
 ghost use Rattle.store.specs.Passes.{adds, Passed, Flooded};
 use format::Sizes;
 

@@ -1,4 +1,5 @@
 pub mod Sets
+pub mod Tests
 pub mod Closure
 pub mod Store
 pub mod FixedPoint

@@ -1,8 +1,8 @@
 -- `write_start`: where the score stands at the start, as bytes.
 use mathlib.Core.Path.{_≡_, ap, subst⁻¹, _∙_}
 use borrow.Author.Needs.{needs}
-use Rattle.format.specs.Format.{sizesOf}
 use Rattle.format.specs.Decode.{sizes}
+use Rattle.scorefile.proofs.Stages.{head-read}
 use Rattle.lent.specs.States.{asBytes, LawfulState}
 use Rattle.standing.specs.Standing.{stateIn}
 use Rattle.history.proofs.Starts.{start-lawful, start-bytes}
@@ -10,7 +10,7 @@ use Rattle.history.proofs.write_start.Statement.{statement}
 use Rattle.history.proofs.write_start.Tie as tie
 
 sizes-are : (c : tie.After-sizes-of) → c .sizes-of .result ≡ sizes (c .before .before .before .before .args .score .now)
-sizes-are c = c .sizes-of .ensures ∙ ap sizesOf (c .before .word-at .ensures)
+sizes-are c = head-read (c .before .before .before .before .args .score .now) (c .before .word-at .ensures) (c .sizes-of .ensures)
 
 word-at-requires : tie.Need-word-at-requires
 word-at-requires c κs = search needs

@@ -1,37 +1,34 @@
 -- `call`: each test in the order of the table, then the answer.
 use mathlib.Core.Path.{_≡_, refl, sym, ap, ap₂, subst⁻¹, _∙_}
-use mathlib.Core.Bool.{true, false, cond, true≢false}
+use mathlib.Core.Bool.{false, true≢false}
 use Prim.Native.Nat.{ℕ, _<_, _≤_}
 use borrow.Author.Needs.{needs}
 use native.Mathlib.Omega.{arith}
-use lib.Dec.{eqb, leb}
-use mathlib.Core.List.{List, _∷_}
+use lib.Dec.{leb}
 use lib.ListN.{length, getD, replicate}
 use Rattle.tcc.specs.Sets.{any}
-use Rattle.tcc.specs.Instant.{Answer, count, output, answer}
+use Rattle.tcc.specs.Instant.{Answer, answer}
 use Rattle.words.proofs.Words.{words-length}
-use Rattle.format.specs.Format.{sizesOf}
 use Rattle.format.specs.Decode.{sizes, decode}
-use Rattle.format.proofs.Decode.{decode-agents, decode-tokens, sizes-few}
+use Rattle.format.proofs.Decode.{decode-tokens, sizes-few, playable-agents}
 use Rattle.verdicts.specs.Verdicts.{numberOf}
 use Rattle.scorefile.specs.Check.{verdict}
 use Rattle.verdicts.proofs.Verdicts.{accepted-only}
 use Rattle.faults.proofs.Accepted.{none-above}
-use Rattle.scorefile.proofs.Lawful.{accepted-faultless, accepted-lawful}
+use Rattle.scorefile.proofs.Stages.{head-read, by-head}
+use Rattle.scorefile.proofs.Stages as stages
 use Rattle.store.specs.Flags.{setOf, flagsOf}
-use Rattle.store.specs.Playable.{Playable}
+use Rattle.format.specs.Playable.{Playable}
 use Rattle.engine.specs.Outcome.{outcomeOf}
 use Rattle.bits.specs.Bits.{bytesOf}
-use Rattle.lent.specs.Maps.{tokensIn, mapOf}
-use Rattle.lent.specs.States.{runningWord, abortedWord, agentWords, stateFault, stateOf, LawfulState}
+use Rattle.lent.specs.Maps.{tokensIn}
+use Rattle.lent.specs.States.{stateFault, stateOf, LawfulState}
 use Rattle.bits.proofs.Filled.{none-from, from-none}
 use Rattle.lent.proofs.Round.{faultless-lawful}
 use Rattle.lent.proofs.Tokens.{tokens-set}
-use Rattle.instant.specs.declared.Reply.the-variants.{Settled}
-use Rattle.instant.specs.InstantCall.{Lent, lent, Exit, lengthFault, tokenFault}
-use Rattle.instant.proofs.Exits.{turned, lengths, state, input, settled, Lengths-are, right-lengths}
+use Rattle.instant.specs.InstantCall.{Lent, lent, lengthFault, tokenFault}
+use Rattle.instant.proofs.Exits.{turned, lengths, state, input, settled, Lengths-are, right-lengths, handed}
 use Rattle.standing.proofs.Inside.{Inside, answer-inside, next-lawful, flags-known}
-use Rattle.instant.proofs.Written.{state-written, store-written, output-written}
 use Rattle.instant.proofs.call.Statement.{statement}
 use Rattle.instant.proofs.call.Tie as tie
 
@@ -39,28 +36,29 @@ abbrev buffers : tie.Start → Lent
 buffers b = lent (b .args .state .now) (b .args .store .now) (b .args .output .now) (b .args .scratch .now)
 
 accepted : (c : tie.Else1) → numberOf (verdict (c .before .before .before .before .before .before .before .before .before .args .score .now)) ≡ 0
-accepted c = sym (c .before .number-of .ensures ∙ ap numberOf (c .before .before .check .ensures)) ∙ c .if1 .left
+accepted c = stages.accepted (c .before .before .before .before .before .before .before .before .before .args .score .now) (c .before .number-of .ensures) (c .before .before .check .ensures) (c .if1 .left)
+
+lengths-tested : (c : tie.After-wrong-length) → c .wrong-length .result ≡ lengthFault (c .before .before .before .before .before .before .before .before .before .before .args .input .now) (buffers (c .before .before .before .before .before .before .before .before .before .before))
+lengths-tested c = c .wrong-length .ensures
 
 long : (c : tie.Else2) → lengthFault (c .before .before .before .before .before .before .before .before .before .before .before .args .input .now) (buffers (c .before .before .before .before .before .before .before .before .before .before .before)) ≡ false
-long c = sym (c .before .wrong-length .ensures) ∙ c .if2 .left
+long c = sym (lengths-tested (c .before)) ∙ c .if2 .left
 
 -- by the five lengths
 lengths-are : (c : tie.Else2) → Lengths-are (c .before .before .before .before .before .before .before .before .before .before .before .args .input .now) (buffers (c .before .before .before .before .before .before .before .before .before .before .before))
 lengths-are c = right-lengths (c .before .before .before .before .before .before .before .before .before .before .before .args .input .now) (buffers (c .before .before .before .before .before .before .before .before .before .before .before)) (long c)
 
 playable : (c : tie.Else1) → Playable (c .before .before .before .before .before .before .before .before .before .args .score .now)
-playable c =
-    let s = c .before .before .before .before .before .before .before .before .before .args .score .now in
-    let e = accepted-only (verdict s) (accepted c) in
-    record { whole = accepted-faultless s e .enough; lawful = accepted-lawful s e }
+playable c = stages.playable (c .before .before .before .before .before .before .before .before .before .args .score .now) (accepted c)
 
 sizes-are : (c : tie.After-sizes-of) → c .sizes-of .result ≡ sizes (c .before .before .before .before .before .before .before .before .before .before .before .before .before .args .score .now)
-sizes-are c = c .sizes-of .ensures ∙ ap sizesOf (c .before .word-at .ensures)
+sizes-are c = head-read (c .before .before .before .before .before .before .before .before .before .before .before .before .before .args .score .now) (c .before .word-at .ensures) (c .sizes-of .ensures)
+
+fault-is : (c : tie.After-state-fault) → c .state-fault .result ≡ stateFault (sizes (c .before .before .before .before .before .before .before .before .before .before .before .before .before .before .before .args .score .now) .agents) (c .before .before .before .before .before .before .before .before .before .before .before .before .before .before .before .args .state .now)
+fault-is c = by-head (λ h. stateFault (h .agents) (c .before .before .before .before .before .before .before .before .before .before .before .before .before .before .before .args .state .now)) (sizes-are (c .before .before)) (c .state-fault .ensures)
 
 state-lawful : (c : tie.Else3) → stateFault (sizes (c .before .before .before .before .before .before .before .before .before .before .before .before .before .before .before .before .args .score .now) .agents) (c .before .before .before .before .before .before .before .before .before .before .before .before .before .before .before .before .args .state .now) ≡ false
-state-lawful c =
-    ap (λ h. stateFault (h .agents) (c .before .before .before .before .before .before .before .before .before .before .before .before .before .before .before .before .args .state .now)) (sym (sizes-are (c .before .before .before)))
-    ∙ sym (c .before .state-fault .ensures) ∙ c .if3 .left
+state-lawful c = sym (fault-is (c .before)) ∙ c .if3 .left
 
 inputs-are : (c : tie.After-read-map) → setOf (c .read-map .result) ≡ tokensIn (c .before .before .before .before .before .before .before .before .before .before .before .before .before .before .before .before .before .args .input .now)
 inputs-are c = ap setOf (c .read-map .ensures) ∙ tokens-set (c .before .before .before .before .before .before .before .before .before .before .before .before .before .before .before .before .before .args .input .now)
@@ -69,10 +67,6 @@ token-fault : (c : tie.After-any-from) → c .any-from .result ≡ tokenFault (c
 token-fault c =
     c .any-from .ensures
     ∙ ap₂ (λ h l. any (λ t. leb (h .tokens) t) l) (sizes-are (c .before .before .before .before .before .before)) (inputs-are (c .before .before))
-
-same-exit : {s s′ t t′ o o′ f f′ : List ℕ} {m m′ n n′ : ℕ} → s ≡ s′ → t ≡ t′ → o ≡ o′ → f ≡ f′ → m ≡ m′ → n ≡ n′ →
-    _≡_ {A = Exit} (record { lent = lent s t o f; reply = Settled m n }) (record { lent = lent s′ t′ o′ f′; reply = Settled m′ n′ })
-same-exit p q r e a b = λ i. record { lent = lent (p i) (q i) (r i) (e i); reply = Settled (a i) (b i) }
 
 -- the answer that the call gives
 abbrev answer-of : tie.Start → Answer
@@ -90,7 +84,7 @@ inside c =
     let p = playable (c .before .before .before .before .before .before .before .before .before .before .before) in
     let none : tokenFault s (b .args .input .now) ≡ false = sym (token-fault (c .before)) ∙ c .if4 .left in
     answer-inside (decode s) (stateOf (b .args .state .now)) (tokensIn (b .args .input .now)) (p .lawful)
-    (subst⁻¹ (λ n. LawfulState n (stateOf (b .args .state .now))) (decode-agents s (omega (arith, p .whole))) (faultless-lawful (sizes s .agents) (b .args .state .now) (state-lawful (c .before .before .before .before))))
+    (subst⁻¹ (λ n. LawfulState n (stateOf (b .args .state .now))) (playable-agents s p) (faultless-lawful (sizes s .agents) (b .args .state .now) (state-lawful (c .before .before .before .before))))
     (λ t m. omega (arith, decode-tokens s, none-above (sizes s .tokens) (tokensIn (b .args .input .now)) none t m))
 
 check-requires : tie.Need-check-requires
@@ -102,7 +96,7 @@ number-of-requires c κs = search needs
 returns : tie.Need-returns
 returns c =
     let b = c .before .before .before .before .before .before .before .before .before in
-    record { exits = turned (b .args .score .now) (b .args .input .now) (buffers b) (c .before .before .check .result) (c .before .before .check .ensures) (λ z. c .if1 .taken (c .before .number-of .ensures ∙ z)) }
+    record { exits = turned (b .args .score .now) (b .args .input .now) (buffers b) (c .before .number-of .ensures) (c .before .before .check .ensures) (c .if1 .taken) }
 
 wrong-length-requires : tie.Need-wrong-length-requires
 wrong-length-requires c κs = search needs
@@ -110,7 +104,7 @@ wrong-length-requires c κs = search needs
 returns-2 : tie.Need-returns-2
 returns-2 c =
     let b = c .before .before .before .before .before .before .before .before .before .before .before in
-    record { exits = lengths (b .args .score .now) (b .args .input .now) (buffers b) (accepted (c .before .before)) (sym (c .before .wrong-length .ensures) ∙ c .if2 .taken) }
+    record { exits = lengths (b .args .score .now) (b .args .input .now) (buffers b) (accepted (c .before .before)) (sym (lengths-tested (c .before)) ∙ c .if2 .taken) }
 
 word-at-requires : tie.Need-word-at-requires
 word-at-requires c κs = omega (arith, playable (c .before .before) .whole)
@@ -127,8 +121,7 @@ same-length c = search needs
 returns-3 : tie.Need-returns-3
 returns-3 c =
     let b = c .before .before .before .before .before .before .before .before .before .before .before .before .before .before .before .before in
-    let f = ap (λ h. stateFault (h .agents) (b .args .state .now)) (sym (sizes-are (c .before .before .before))) ∙ sym (c .before .state-fault .ensures) ∙ c .if3 .taken in
-    record { exits = state (b .args .score .now) (b .args .input .now) (buffers b) (accepted (c .before .before .before .before .before .before .before)) (long (c .before .before .before .before .before)) f }
+    record { exits = state (b .args .score .now) (b .args .input .now) (buffers b) (accepted (c .before .before .before .before .before .before .before)) (long (c .before .before .before .before .before)) (sym (fault-is (c .before)) ∙ c .if3 .taken) }
 
 read-map-requires : tie.Need-read-map-requires
 read-map-requires c κs = lengths-are (c .before .before .before .before .before) .input-long
@@ -171,7 +164,7 @@ returns-5 c =
     let b = c .before .before .before .before .before .before .before .before .before .before .before .before .before .before .before .before .before .before .before .before .before .before .before .before .before .before .before .before .before .before in
     let sc = decode (b .args .score .now) in
     let h = ap (λ x. x .agents) (sizes-are (c .before .before .before .before .before .before .before .before .before .before .before .before .before .before .before .before .before)) in
-    let e = decode-agents (b .args .score .now) (omega (arith, playable (c .before .before .before .before .before .before .before .before .before .before .before .before .before .before .before .before .before .before .before .before .before) .whole)) in
+    let e = playable-agents (b .args .score .now) (playable (c .before .before .before .before .before .before .before .before .before .before .before .before .before .before .before .before .before .before .before .before .before)) in
     let none : any (λ i. leb (c .before .before .before .before .before .before .before .before .before .before .before .before .before .before .before .before .before .sizes-of .result .agents) i) (setOf (c .before .before .before .before .before .before .before .before .answer-in .result .awake)) ≡ false =
     from-none _ _ (λ i le. ap (λ o. getD (o .awake) i false) (outcome-is (c .before .before .before .before .before .before .before .before)) ∙ flags-known 1024 (length (sc .agents)) (answer-of b .awake) (inside (c .before .before .before .before .before .before .before .before .before .before) .agents) i (omega (arith, h, e))) in
     absurd (true≢false (sym (c .if5 .taken) ∙ c .before .any-from2 .ensures ∙ none))
@@ -212,29 +205,21 @@ same-length-8 : tie.Need-same-length-8
 same-length-8 c = search needs
 
 returns-6 : tie.Need-returns-6
-unfolding outcomeOf
 returns-6 c =
     let b = c .before .before .before .before .before .before .before .before .before .before .before .before .before .before .before .before .before .before .before .before .before .before .before .before .before .before .before .before .before .before .before .before .before .before .before .before .before .before .before .before in
     let s = b .args .score .now in
     let sc = decode s in
     let a = answer-of b in
-    let o = outcome-is (c .before .before .before .before .before .before .before .before .before .before .before .before .before .before .before .before .before .before) in
-    let h = c .before .before .before .before .before .before .hand-over .ensures in
     let i = inside (c .before .before .before .before .before .before .before .before .before .before .before .before .before .before .before .before .before .before .before .before) in
     let p = playable (c .before .before .before .before .before .before .before .before .before .before .before .before .before .before .before .before .before .before .before .before .before .before .before .before .before .before .before .before .before .before .before) in
     let few = sizes-few s in
-    let n = decode-agents s (omega (arith, p .whole)) in
+    let n = playable-agents s p in
     let t = decode-tokens s in
     record {
       exits =
-          same-exit
-          (h .state-is ∙ ap (λ x. bytesOf (cond (eqb (x .status) 2) abortedWord runningWord ∷ agentWords (setOf (x .awake)))) o ∙ state-written sc a (omega arith) i)
-          (h .store-is ∙ ap (λ x. mapOf (setOf (x .store))) o ∙ store-written sc a (omega arith) i)
-          (h .output-is ∙ ap (λ x. mapOf (output sc (x .status) (setOf (x .store)))) o ∙ output-written sc a (omega arith) i)
+          handed sc a (omega arith) (omega arith) i (outcome-is (c .before .before .before .before .before .before .before .before .before .before .before .before .before .before .before .before .before .before)) (c .before .before .before .before .before .before .hand-over .ensures)
           (c .before .before .before .before .before .before .before .before .before .before .before .before .before .before .before .before .clear .ensures ∙ ap (λ k. replicate k 0) (lengths-are (c .before .before .before .before .before .before .before .before .before .before .before .before .before .before .before .before .before .before .before .before .before .before .before .before .before .before .before .before .before) .scratch-long))
-          (ap (λ x. x .status) o)
-          (ap (λ x. x .count) o)
-          ∙ settled s (b .args .input .now) (buffers b) (accepted (c .before .before .before .before .before .before .before .before .before .before .before .before .before .before .before .before .before .before .before .before .before .before .before .before .before .before .before .before .before .before .before)) (long (c .before .before .before .before .before .before .before .before .before .before .before .before .before .before .before .before .before .before .before .before .before .before .before .before .before .before .before .before .before)) (state-lawful (c .before .before .before .before .before .before .before .before .before .before .before .before .before .before .before .before .before .before .before .before .before .before .before .before)) (sym (token-fault (c .before .before .before .before .before .before .before .before .before .before .before .before .before .before .before .before .before .before .before .before .before)) ∙ c .before .before .before .before .before .before .before .before .before .before .before .before .before .before .before .before .before .before .before .before .if4 .left) a refl (next-lawful sc a (sizes s .agents) n (omega arith) i);
+          (settled s (b .args .input .now) (buffers b) (accepted (c .before .before .before .before .before .before .before .before .before .before .before .before .before .before .before .before .before .before .before .before .before .before .before .before .before .before .before .before .before .before .before)) (long (c .before .before .before .before .before .before .before .before .before .before .before .before .before .before .before .before .before .before .before .before .before .before .before .before .before .before .before .before .before)) (state-lawful (c .before .before .before .before .before .before .before .before .before .before .before .before .before .before .before .before .before .before .before .before .before .before .before .before)) (sym (token-fault (c .before .before .before .before .before .before .before .before .before .before .before .before .before .before .before .before .before .before .before .before .before)) ∙ c .before .before .before .before .before .before .before .before .before .before .before .before .before .before .before .before .before .before .before .before .if4 .left) a refl (next-lawful sc a (sizes s .agents) n (omega arith) i));
     }
 
 pub call-spec : {M : Type 1} → statement M

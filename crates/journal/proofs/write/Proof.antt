@@ -32,15 +32,6 @@ put-tokens-requires-2 c κs =
     let room = instant-length (a .status) (setOf (a .inputs .now)) (setOf (a .outputs .now)) in
     (omega arith, (omega arith, (b .pre .1 .1 .1 .1 .1 .0, (omega arith, omega arith))))
 
-mul-result : tie.Need-mul-result
-mul-result c =
-    let b = c .before .before .before .before .before .before .before .before .before .before .before .before .before .before .before .before in
-    let a = b .args in
-    let middle = c .before .before .before .before .before .before .put-tokens .ensures .1 in
-    let end = c .before .before .put-tokens2 .ensures .1 in
-    let few = instant-length (a .status) (setOf (a .inputs .now)) (setOf (a .outputs .now)) in
-    omega arith
-
 same-length : tie.Need-same-length
 same-length c = search needs
 
@@ -52,13 +43,9 @@ returns c =
     let first = c .before .before .before .before .before .before .before .before .before .before .put-word in
     let second = c .before .before .before .before .before .before .put-tokens in
     let third = c .before .before .put-tokens2 in
-    let middle = second .ensures .1 in
-    let end = third .ensures .1 in (
-      instant-put (a .status) (setOf (a .inputs .now)) (setOf (a .outputs .now)) (a .journal .now) (b .pre .1 .1 .1 .1 .1 .1)
-          (word .result) (second .result) (first .last .0) (second .last .0) (third .last .0)
-          (word .ensures) middle (first .ensures) (second .ensures .0) (third .ensures .0),
-      omega (arith, instant-length (a .status) (setOf (a .inputs .now)) (setOf (a .outputs .now))),
-    )
+    instant-put (a .status) (setOf (a .inputs .now)) (setOf (a .outputs .now)) (a .journal .now) (b .pre .1 .1 .1 .1 .1 .1)
+    (word .result) (second .result) (first .last .0) (second .last .0) (third .last .0)
+    (word .ensures) (second .ensures .1) (first .ensures) (second .ensures .0) (third .ensures .0)
 
 pub write-spec : {M : Type 1} → statement M
 write-spec =
@@ -68,6 +55,5 @@ write-spec =
     put-word-requires
     put-tokens-requires
     put-tokens-requires-2
-    mul-result
     same-length
     returns)

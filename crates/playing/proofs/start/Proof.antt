@@ -1,12 +1,11 @@
 -- `start`: the state of an accepted score.
-use mathlib.Core.Path.{_≡_, refl, sym, ap, _∙_}
+use mathlib.Core.Path.{_≡_, refl, ap, _∙_}
 use borrow.Author.Needs.{needs}
 use Rattle.verdicts.specs.Verdicts.{numberOf}
-use Rattle.scorefile.specs.Check.{verdict}
 use Rattle.verdicts.proofs.Verdicts.{accepted-only}
-use Rattle.scorefile.proofs.Lawful.{accepted-faultless, accepted-lawful}
 use Rattle.playing.proofs.start.Statement.{statement}
 use Rattle.playing.proofs.start.Tie as tie
+use Rattle.scorefile.proofs.Stages.{accepted, playable}
 
 check-requires : tie.Need-check-requires
 check-requires c κs = search needs
@@ -21,8 +20,7 @@ write-start-requires : tie.Need-write-start-requires
 write-start-requires c κs =
     let s = c .before .before .before .before .before .args .score .now in
     let zero : c .before .before .number-of .result ≡ 0 = c .before .if1 .taken in
-    let e = accepted-only (verdict s) (sym (c .before .before .number-of .ensures ∙ ap numberOf (c .before .before .before .check .ensures)) ∙ zero) in
-    (record { whole = accepted-faultless s e .enough; lawful = accepted-lawful s e }, refl)
+    (playable s (accepted s (c .before .before .number-of .ensures) (c .before .before .before .check .ensures) zero), refl)
 
 returns : tie.Need-returns
 returns c = search needs

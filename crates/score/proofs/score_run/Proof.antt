@@ -9,11 +9,11 @@ use Rattle.score.proofs.score_run.Tie as tie
 slice : (c : tie.After-shared-slice-known2) → Slice (c .before .before .before .args .inputs .now)
 slice c = record { few = omega (arith, c .before .before .before .good .1 .1 .0 .1); small = λ i. omega (arith, c .shared-slice-known2 .given i) }
 
-run-requires : tie.Need-run-requires
-run-requires c κs = search needs
+call-requires : tie.Need-call-requires
+call-requires c κs = search needs
 
 of-run-reply-requires : tie.Need-of-run-reply-requires
-of-run-reply-requires c κs = called-fits (slice (c .before .before .before .before .before .before .before .before .before .before .before .before)) (c .before .before .before .before .before .before .run .ensures)
+of-run-reply-requires c κs = called-fits (slice (c .before .before .before .before .before .before .before .before .before .before .before .before)) (c .before .before .before .before .before .before .call .ensures)
 
 same-length : tie.Need-same-length
 same-length c = search needs
@@ -25,9 +25,9 @@ same-length-3 : tie.Need-same-length-3
 same-length-3 c = search needs
 
 returns : tie.Need-returns
-returns c = returned (slice (c .before .before .before .before .before .before .before .before .before .before .before .before .before)) (c .before .before .before .before .before .before .before .run .ensures) (c .of-run-reply .ensures)
+returns c = returned (slice (c .before .before .before .before .before .before .before .before .before .before .before .before .before)) (c .before .before .before .before .before .before .before .call .ensures) (c .of-run-reply .ensures)
 
 pub score-run-spec : {M : Type 1} → statement M
 score-run-spec =
     tie.close
-    (tie.spec run-requires of-run-reply-requires same-length same-length-2 same-length-3 returns)
+    (tie.spec call-requires of-run-reply-requires same-length same-length-2 same-length-3 returns)

@@ -1,0 +1,46 @@
+-- `step_from`: what the parts return is the instant.
+use mathlib.Core.Path.{refl}
+use borrow.Author.Needs.{needs}
+use lib.Dec.{leb}
+use Rattle.tcc.specs.Sets.{any}
+use Rattle.store.specs.Flags.{setOf}
+use Rattle.standing.specs.Standing.{stateIn}
+use Rattle.scorefile.proofs.Stages.{by-head}
+use Rattle.history.proofs.FromStanding.{stepped}
+use Rattle.history.proofs.step_from.Statement.{statement}
+use Rattle.history.proofs.step_from.Tie as tie
+
+answer-from-requires : tie.Need-answer-from-requires
+answer-from-requires c κs = search needs
+
+sent-requires : tie.Need-sent-requires
+sent-requires c κs = search needs
+
+slice-aggregate-any-from : tie.Need-slice-aggregate-any-from
+slice-aggregate-any-from c = search needs
+
+any-from-requires : tie.Need-any-from-requires
+any-from-requires c κs = search needs
+
+standing-after-requires : tie.Need-standing-after-requires
+standing-after-requires c κs = search needs
+
+returns : tie.Need-returns
+returns c =
+    let b = c .before .before .before .before .before .before .before .before in
+    let o = c .before .before .before .before .before .before .answer-from in
+    stepped (b .args .score .now) (b .pre .1 .0) (stateIn (b .args .standing)) (b .pre .1 .1 .0) (b .args .told) (b .pre .1 .1 .1) (o .result) (o .ensures)
+    _ refl (c .before .before .before .sent .ensures (o .result .status))
+    (by-head (λ h. any (λ i. leb (h .agents) i) (setOf (o .result .awake))) (b .pre .0) (c .before .any-from .ensures))
+    (c .standing-after .ensures)
+
+pub step-from-spec : {M : Type 1} → statement M
+step-from-spec =
+    tie.close
+    (tie.spec
+    answer-from-requires
+    sent-requires
+    slice-aggregate-any-from
+    any-from-requires
+    standing-after-requires
+    returns)

@@ -1,0 +1,14 @@
+-- The words of one instant as a good form has them.
+--     Formed         they are the instant's word, its inputs and its outputs, whose tokens rise and are below T
+use mathlib.Core.Path.{_≡_}
+use mathlib.Core.List.{List}
+use Prim.Native.Nat.{ℕ}
+use lib.ListN.{getD}
+use Rattle.form.specs.Form.{statusOf}
+use Rattle.parts.specs.Instants.{tokensOf, inputsIn}
+use Rattle.journal.specs.History.{instantWords, Rising}
+
+pub record Formed (tokens : ℕ) (ws : List ℕ) : Type 0 where
+  pub is : ws ≡ instantWords (statusOf (getD ws 0 0)) (inputsIn ws) (tokensOf 14 ws)
+  pub inputs : Rising tokens (inputsIn ws)
+  pub outputs : Rising tokens (tokensOf 14 ws)

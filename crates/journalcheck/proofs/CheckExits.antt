@@ -1,0 +1,54 @@
+-- The journal check's exits, one for each reply.
+--     turned, lengths, not-whole, against, read
+use mathlib.Core.Path.{_≡_, ap, _∙_}
+use mathlib.Core.Bool.{true, not}
+use mathlib.Core.List.{List}
+use Prim.Native.Nat.{ℕ}
+use borrow.Author.Tests.{eq-eqb, ne-eqb}
+use lib.ListN.{length}
+use Rattle.tcc.proofs.Tests.{cond-true, cond-false}
+use Rattle.format.specs.Decode.{sizes}
+use Rattle.verdicts.specs.declared.Verdict.{Verdict}
+use Rattle.verdicts.specs.Verdicts.{numberOf}
+use Rattle.scorefile.specs.Check.{verdict}
+use Rattle.scorefile.proofs.Stages.{passed}
+use Rattle.scorefile.proofs.Stages as stages
+use Rattle.lent.specs.Lengths.{scratchBytes, noScratch}
+use Rattle.form.specs.declared.Form.{Form}
+use Rattle.form.specs.declared.Form.the-variants.{Good, Bytes, Word}
+use Rattle.form.specs.Form.{formOf}
+use Rattle.history.specs.declared.Reply.{Reply}
+use Rattle.history.specs.declared.Reply.the-variants.{Score as Turned, Lengths, Bytes as NoWords, Word as Against}
+use Rattle.history.specs.ByForm.{byForm}
+use Rattle.history.proofs.ByForm.{by-form}
+use Rattle.journalcheck.specs.JournalCheckCall.{Exit, left, checked, exit}
+
+module _ (score journal scratch : List ℕ) where
+  abbrev down : Verdict → Exit
+  down v = left scratch (Turned v)
+
+  pub turned : {v : Verdict} {n : ℕ} → n ≡ numberOf v → v ≡ verdict score → (n ≡ 0 → ⊥) → left scratch (Turned v) ≡ exit score journal scratch
+  unfolding exit
+  turned number-is is not-zero = stages.turned score number-is is down _ not-zero
+
+  module _ (accepted : numberOf (verdict score) ≡ 0) where
+    pub lengths : (length scratch ≡ scratchBytes → ⊥) → left scratch Lengths ≡ exit score journal scratch
+    unfolding exit
+    lengths n = cond-true _ _ (ap not (ne-eqb (length scratch) scratchBytes n)) ∙ passed score accepted down _
+
+    module _ (long : length scratch ≡ scratchBytes) where
+      formed : {f : Form} → formOf true (sizes score .tokens) journal ≡ f → byForm f (left scratch) (left noScratch (checked score journal)) ≡ exit score journal scratch
+      unfolding exit
+      formed e =
+          by-form (left scratch) (left noScratch (checked score journal)) e
+          ∙ cond-false _ _ (ap not (eq-eqb (length scratch) scratchBytes long)) ∙ passed score accepted down _
+
+      pub not-whole : formOf true (sizes score .tokens) journal ≡ Bytes → left scratch NoWords ≡ exit score journal scratch
+      not-whole e = formed e
+
+      pub against : (k : ℕ) → formOf true (sizes score .tokens) journal ≡ Word k → left scratch (Against k) ≡ exit score journal scratch
+      against k e = formed e
+
+      pub read : formOf true (sizes score .tokens) journal ≡ Good → {scratch′ : List ℕ} {reply : Reply} → scratch′ ≡ noScratch → reply ≡ checked score journal →
+          _≡_ {A = Exit} (record { scratch = scratch′; reply = reply }) (exit score journal scratch)
+      read good z r = (λ i. left (z i) (r i)) ∙ formed good

@@ -1,0 +1,115 @@
+-- `call`: each test in the order of the table, then the instants.
+use mathlib.Core.Path.{_≡_, sym, ap, _∙_}
+use borrow.Author.Needs.{needs}
+use native.Mathlib.Omega.{arith}
+use mathlib.Core.Bool.{true}
+use lib.ListN.{replicate}
+use Rattle.format.specs.Decode.{sizes}
+use Rattle.verdicts.specs.Verdicts.{numberOf}
+use Rattle.scorefile.specs.Check.{verdict}
+use Rattle.verdicts.proofs.Verdicts.{accepted-only}
+use Rattle.form.specs.Form.{formOf}
+use Rattle.scorefile.proofs.Stages.{head-read, by-head}
+use Rattle.scorefile.proofs.Stages as stages
+use Rattle.format.specs.Playable.{Playable}
+use Rattle.journalcheck.proofs.CheckExits.{turned, lengths, not-whole, against, read}
+use Rattle.journalcheck.proofs.call.Statement.{statement}
+use Rattle.journalcheck.proofs.call.Tie as tie
+
+accepted : (c : tie.Else1) → numberOf (verdict (c .before .before .before .before .before .before .args .score .now)) ≡ 0
+accepted c = stages.accepted (c .before .before .before .before .before .before .args .score .now) (c .before .number-of .ensures) (c .before .before .check .ensures) (c .if1 .left)
+
+playable : (c : tie.Else1) → Playable (c .before .before .before .before .before .before .args .score .now)
+playable c = stages.playable (c .before .before .before .before .before .before .args .score .now) (accepted c)
+
+sizes-are : (c : tie.After-sizes-of) → c .sizes-of .result ≡ sizes (c .before .before .before .before .before .before .before .before .before .args .score .now)
+sizes-are c = head-read (c .before .before .before .before .before .before .before .before .before .args .score .now) (c .before .word-at .ensures) (c .sizes-of .ensures)
+
+form-is : (c : tie.After-form-of) → let b = c .before .before .before .before .before .before .before .before .before .before in
+    formOf true (sizes (b .args .score .now) .tokens) (b .args .journal .now) ≡ c .form-of .result
+form-is c =
+    let b = c .before .before .before .before .before .before .before .before .before .before in
+    sym (by-head (λ h. formOf true (h .tokens) (b .args .journal .now)) (sizes-are (c .before)) (c .form-of .ensures))
+
+check-requires : tie.Need-check-requires
+check-requires c κs = search needs
+
+number-of-requires : tie.Need-number-of-requires
+number-of-requires c κs = search needs
+
+returns : tie.Need-returns
+returns c =
+    let b = c .before .before .before .before .before .before in
+    record { exits = turned (b .args .score .now) (b .args .journal .now) (b .args .scratch .now) (c .before .number-of .ensures) (c .before .before .check .ensures) (c .if1 .taken) }
+
+returns-2 : tie.Need-returns-2
+returns-2 c =
+    let b = c .before .before .before .before .before .before .before in
+    record { exits = lengths (b .args .score .now) (b .args .journal .now) (b .args .scratch .now) (accepted (c .before)) (c .if2 .taken) }
+
+word-at-requires : tie.Need-word-at-requires
+word-at-requires c κs = omega (arith, playable (c .before) .whole)
+
+sizes-of-requires : tie.Need-sizes-of-requires
+sizes-of-requires c κs = search needs
+
+form-of-requires : tie.Need-form-of-requires
+form-of-requires c κs = search needs
+
+enum-told : tie.Need-enum-told
+enum-told c = search needs
+
+enum-known-k : tie.Need-enum-known-k
+enum-known-k c = search needs
+
+enum-told-2 : tie.Need-enum-told-2
+enum-told-2 c = search needs
+
+clear-requires : tie.Need-clear-requires
+clear-requires c κs = search needs
+
+check-list-requires : tie.Need-check-list-requires
+check-list-requires c κs = (sizes-are (c .before .before .before .before .before .before .before), (playable (c .before .before .before .before .before .before .before .before .before .before), form-is (c .before .before .before .before .before .before) ∙ c .before .before .before .before .enum-told2 .given .1))
+
+returns-3 : tie.Need-returns-3
+returns-3 c =
+    let b = c .before .before .before .before .before .before .before .before .before .before .before .before in
+    record { exits = not-whole (b .args .score .now) (b .args .journal .now) (b .args .scratch .now) (accepted (c .before .before .before .before .before .before)) (c .before .before .before .before .before .if2 .left) (form-is (c .before .before) ∙ c .enum-told .given .1) }
+
+returns-4 : tie.Need-returns-4
+returns-4 c =
+    let b = c .before .before .before .before .before .before .before .before .before .before .before .before .before in
+    record { exits = against (b .args .score .now) (b .args .journal .now) (b .args .scratch .now) (accepted (c .before .before .before .before .before .before .before)) (c .before .before .before .before .before .before .if2 .left) _ (form-is (c .before .before .before) ∙ c .before .k .given .1) }
+
+same-length : tie.Need-same-length
+same-length c = search needs
+
+returns-5 : tie.Need-returns-5
+returns-5 c =
+    let b = c .before .before .before .before .before .before .before .before .before .before .before .before .before .before .before .before .before in
+    record {
+      exits =
+          read (b .args .score .now) (b .args .journal .now) (b .args .scratch .now) (accepted (c .before .before .before .before .before .before .before .before .before .before .before)) (c .before .before .before .before .before .before .before .before .before .before .if2 .left) (form-is (c .before .before .before .before .before .before .before) ∙ c .before .before .before .before .before .enum-told2 .given .1)
+          (c .before .before .before .clear .ensures ∙ ap (λ k. replicate k 0) (c .before .before .before .before .before .before .before .before .before .before .if2 .left)) (c .check-list .ensures);
+    }
+
+pub call-spec : {M : Type 1} → statement M
+call-spec =
+    tie.close
+    (tie.spec
+    check-requires
+    number-of-requires
+    returns
+    returns-2
+    word-at-requires
+    sizes-of-requires
+    form-of-requires
+    enum-told
+    enum-known-k
+    enum-told-2
+    clear-requires
+    check-list-requires
+    returns-3
+    returns-4
+    same-length
+    returns-5)

@@ -1,0 +1,2 @@
+pub mod RunExits
+pub mod Replies

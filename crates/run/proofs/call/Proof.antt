@@ -1,0 +1,162 @@
+-- `call`: each test in the order of the table, then the instants.
+use mathlib.Core.Path.{_≡_, sym, ap, _∙_}
+use borrow.Author.Needs.{needs}
+use native.Mathlib.Omega.{arith}
+use lib.ListN.{replicate}
+use mathlib.Core.Bool.{false}
+use Rattle.format.specs.Decode.{sizes}
+use Rattle.verdicts.specs.Verdicts.{numberOf}
+use Rattle.scorefile.specs.Check.{verdict}
+use Rattle.verdicts.proofs.Verdicts.{accepted-only}
+use Rattle.scorefile.proofs.Stages.{head-read, by-head}
+use Rattle.scorefile.proofs.Stages as stages
+use Rattle.format.specs.Playable.{Playable}
+use Rattle.lent.specs.States.{stateFault}
+use Rattle.form.specs.Form.{formOf}
+use Rattle.run.specs.RunCall.{Lent, lent, lengthFault}
+use Rattle.run.proofs.RunExits.{turned, lengths, state, bytes, word, runs, right-lengths}
+use Rattle.run.proofs.call.Statement.{statement}
+use Rattle.run.proofs.call.Tie as tie
+
+abbrev buffers : tie.Start → Lent
+buffers b = lent (b .args .state .now) (b .args .journal .now) (b .args .scratch .now)
+
+accepted : (c : tie.Else1) → numberOf (verdict (c .before .before .before .before .before .before .before .before .args .score .now)) ≡ 0
+accepted c = stages.accepted (c .before .before .before .before .before .before .before .before .args .score .now) (c .before .number-of .ensures) (c .before .before .check .ensures) (c .if1 .left)
+
+long : (c : tie.Else2) → lengthFault (buffers (c .before .before .before .before .before .before .before .before .before .before)) ≡ false
+long c = sym (c .before .wrong-length .ensures) ∙ c .if2 .left
+
+playable : (c : tie.Else1) → Playable (c .before .before .before .before .before .before .before .before .args .score .now)
+playable c = stages.playable (c .before .before .before .before .before .before .before .before .args .score .now) (accepted c)
+
+sizes-are : (c : tie.After-sizes-of) → c .sizes-of .result ≡ sizes (c .before .before .before .before .before .before .before .before .before .before .before .before .args .score .now)
+sizes-are c = head-read (c .before .before .before .before .before .before .before .before .before .before .before .before .args .score .now) (c .before .word-at .ensures) (c .sizes-of .ensures)
+
+fault-is : (c : tie.After-state-fault) → c .state-fault .result ≡ stateFault (sizes (c .before .before .before .before .before .before .before .before .before .before .before .before .before .before .args .score .now) .agents) (c .before .before .before .before .before .before .before .before .before .before .before .before .before .before .args .state .now)
+fault-is c = by-head (λ h. stateFault (h .agents) (c .before .before .before .before .before .before .before .before .before .before .before .before .before .before .args .state .now)) (sizes-are (c .before .before)) (c .state-fault .ensures)
+
+lawful : (c : tie.Else3) → stateFault (sizes (c .before .before .before .before .before .before .before .before .before .before .before .before .before .before .before .args .score .now) .agents) (c .before .before .before .before .before .before .before .before .before .before .before .before .before .before .before .args .state .now) ≡ false
+lawful c = sym (fault-is (c .before)) ∙ c .if3 .left
+
+form-is : (c : tie.After-form-of) → c .form-of .result ≡ formOf false (sizes (c .before .before .before .before .before .before .before .before .before .before .before .before .before .before .before .before .args .score .now) .tokens) (c .before .before .before .before .before .before .before .before .before .before .before .before .before .before .before .before .args .inputs .now)
+form-is c = by-head (λ h. formOf false (h .tokens) (c .before .before .before .before .before .before .before .before .before .before .before .before .before .before .before .before .args .inputs .now)) (sizes-are (c .before .before .before .before)) (c .form-of .ensures)
+
+check-requires : tie.Need-check-requires
+check-requires c κs = search needs
+
+number-of-requires : tie.Need-number-of-requires
+number-of-requires c κs = search needs
+
+returns : tie.Need-returns
+returns c =
+    let b = c .before .before .before .before .before .before .before .before in
+    record { exits = turned (b .args .score .now) (b .args .inputs .now) (buffers b) (c .before .number-of .ensures) (c .before .before .check .ensures) (c .if1 .taken) }
+
+wrong-length-requires : tie.Need-wrong-length-requires
+wrong-length-requires c κs = search needs
+
+returns-2 : tie.Need-returns-2
+returns-2 c =
+    let b = c .before .before .before .before .before .before .before .before .before .before in
+    record { exits = lengths (b .args .score .now) (b .args .inputs .now) (buffers b) (accepted (c .before .before)) (sym (c .before .wrong-length .ensures) ∙ c .if2 .taken) }
+
+word-at-requires : tie.Need-word-at-requires
+word-at-requires c κs = omega (arith, playable (c .before .before) .whole)
+
+sizes-of-requires : tie.Need-sizes-of-requires
+sizes-of-requires c κs = search needs
+
+state-fault-requires : tie.Need-state-fault-requires
+state-fault-requires c κs = right-lengths (buffers (c .before .before .before .before .before .before .before .before .before .before .before .before .before)) (long (c .before .before .before)) .state-long
+
+same-length : tie.Need-same-length
+same-length c = search needs
+
+returns-3 : tie.Need-returns-3
+returns-3 c =
+    let b = c .before .before .before .before .before .before .before .before .before .before .before .before .before .before .before in
+    record { exits = state (b .args .score .now) (b .args .inputs .now) (buffers b) (accepted (c .before .before .before .before .before .before .before)) (long (c .before .before .before .before .before)) (sym (fault-is (c .before)) ∙ c .if3 .taken) }
+
+form-of-requires : tie.Need-form-of-requires
+form-of-requires c κs = search needs
+
+enum-told : tie.Need-enum-told
+enum-told c = search needs
+
+enum-known-k : tie.Need-enum-known-k
+enum-known-k c = search needs
+
+enum-told-2 : tie.Need-enum-told-2
+enum-told-2 c = search needs
+
+clear-requires : tie.Need-clear-requires
+clear-requires c κs = search needs
+
+run-from-requires : tie.Need-run-from-requires
+run-from-requires c κs =
+    let l = right-lengths (buffers (c .before .before .before .before .before .before .before .before .before .before .before .before .before .before .before .before .before .before .before .before .before .before .before .before)) (long (c .before .before .before .before .before .before .before .before .before .before .before .before .before .before)) in
+    (sizes-are (c .before .before .before .before .before .before .before .before .before .before .before .before), (playable (c .before .before .before .before .before .before .before .before .before .before .before .before .before .before .before .before), (l .state-long, (lawful (c .before .before .before .before .before .before .before .before .before), sym (form-is (c .before .before .before .before .before .before .before .before)) ∙ c .before .before .before .before .before .before .enum-told2 .given .1))))
+
+same-length-2 : tie.Need-same-length-2
+same-length-2 c = search needs
+
+returns-4 : tie.Need-returns-4
+returns-4 c =
+    let b = c .before .before .before .before .before .before .before .before .before .before .before .before .before .before .before .before .before .before in
+    record { exits = bytes (b .args .score .now) (b .args .inputs .now) (buffers b) (accepted (c .before .before .before .before .before .before .before .before .before .before)) (long (c .before .before .before .before .before .before .before .before)) (lawful (c .before .before .before)) (sym (form-is (c .before .before)) ∙ c .enum-told .given .1) }
+
+same-length-3 : tie.Need-same-length-3
+same-length-3 c = search needs
+
+returns-5 : tie.Need-returns-5
+returns-5 c =
+    let b = c .before .before .before .before .before .before .before .before .before .before .before .before .before .before .before .before .before .before .before in
+    record { exits = word (b .args .score .now) (b .args .inputs .now) (buffers b) (accepted (c .before .before .before .before .before .before .before .before .before .before .before)) (long (c .before .before .before .before .before .before .before .before .before)) (lawful (c .before .before .before .before)) _ (sym (form-is (c .before .before .before)) ∙ c .before .k .given .1) }
+
+same-length-4 : tie.Need-same-length-4
+same-length-4 c = search needs
+
+same-length-5 : tie.Need-same-length-5
+same-length-5 c = search needs
+
+same-length-6 : tie.Need-same-length-6
+same-length-6 c = search needs
+
+returns-6 : tie.Need-returns-6
+returns-6 c =
+    let b = c .before .before .before .before .before .before .before .before .before .before .before .before .before .before .before .before .before .before .before .before .before .before .before .before .before .before .before .before .before in
+    record {
+      exits =
+          runs (b .args .score .now) (b .args .inputs .now) (buffers b) (accepted (c .before .before .before .before .before .before .before .before .before .before .before .before .before .before .before .before .before .before .before .before .before)) (long (c .before .before .before .before .before .before .before .before .before .before .before .before .before .before .before .before .before .before .before)) (lawful (c .before .before .before .before .before .before .before .before .before .before .before .before .before .before)) (sym (form-is (c .before .before .before .before .before .before .before .before .before .before .before .before .before)) ∙ c .before .before .before .before .before .before .before .before .before .before .before .enum-told2 .given .1) _ _ _ _
+          (c .before .before .before .before .before .before .before .before .before .clear .ensures ∙ ap (λ n. replicate n 0) (right-lengths (buffers b) (long (c .before .before .before .before .before .before .before .before .before .before .before .before .before .before .before .before .before .before .before)) .scratch-long)) (c .before .before .before .before .run-from .ensures);
+    }
+
+pub call-spec : {M : Type 1} → statement M
+call-spec =
+    tie.close
+    (tie.spec
+    check-requires
+    number-of-requires
+    returns
+    wrong-length-requires
+    returns-2
+    word-at-requires
+    sizes-of-requires
+    state-fault-requires
+    same-length
+    returns-3
+    form-of-requires
+    enum-told
+    enum-known-k
+    enum-told-2
+    clear-requires
+    run-from-requires
+    same-length-2
+    returns-4
+    same-length-3
+    returns-5
+    same-length-4
+    same-length-5
+    same-length-6
+    returns-6)

@@ -1,0 +1,97 @@
+ghost use mathlib.Core.Path.{_≡_};
+ghost use mathlib.Core.Bool.{false, cond, not, _||_};
+ghost use lib.Dec.{eqb};
+ghost use lib.ListN.{length};
+ghost use Rattle.format.specs.Decode.{sizes};
+ghost use Rattle.format.specs.Playable.{Playable};
+ghost use Rattle.lent.specs.Lengths.{stateBytes, scratchBytes};
+ghost use Rattle.lent.specs.States.{stateFault, asBytes, LawfulState};
+ghost use Rattle.standing.specs.Standing.{stateIn};
+ghost use Rattle.form.specs.declared.Form.the-variants.{Good};
+ghost use Rattle.form.specs.Form.{formOf};
+ghost use Rattle.parts.specs.Instants.{inputLists};
+ghost use Rattle.runlist.specs.Run.{runFrom};
+ghost use Rattle.run.specs.RunCall.{lent, ending, LeftBy, RunCall};
+use format::Sizes;
+use history::Reply;
+use form::Form;
+use runlist::Ended;
+use runlist::Stop;
+
+// Runs a score over an input list, with lent buffers.
+pub fn call(
+    score: &[u8],
+    state: &mut [u8],
+    inputs: &[u8],
+    journal: &mut [u8],
+    scratch: &mut [u8],
+) -> Reply
+    ensures { λ r. ⌜ RunCall (now (score .entry)) (now (inputs .entry)) (lent (now (state .entry)) (now (journal .entry)) (now (scratch .entry))) (lent (now (state .exit)) (now (journal .exit)) (now (scratch .exit))) r ⌝ }
+{
+    let verdict = scorefile::check(score);
+    if verdicts::number_of(verdict) != 0 {
+        return Reply::Score(verdict);
+    }
+    if wrong_length(state.len(), scratch.len()) {
+        return Reply::Lengths;
+    }
+    let head = format::sizes_of(words::word_at(score, 0));
+    if lent::state_fault(state, head.agents) {
+        return Reply::State;
+    }
+    match form::form_of(inputs, head.tokens, false) {
+        Form::Bytes => Reply::Bytes,
+        Form::Word(k) => Reply::Word(k),
+        Form::Good => {
+            bits::clear(scratch);
+            run_from(score, head, state, inputs, journal)
+        }
+    }
+}
+
+// Runs a list of good form from a lawful state.
+fn run_from(score: &[u8], head: Sizes, state: &mut [u8], inputs: &[u8], journal: &mut [u8]) -> Reply
+    requires { ⌜ head ≡ sizes (now score) ⌝ }
+    requires { ⌜ Playable (now score) ⌝ }
+    requires { ⌜ length (now state) ≡ stateBytes ⌝ }
+    requires { ⌜ stateFault (sizes (now score) .agents) (now state) ≡ false ⌝ }
+    requires { ⌜ formOf false (sizes (now score) .tokens) (now inputs) ≡ Good ⌝ }
+    ensures { λ r. ⌜ LeftBy (runFrom (now (score .entry)) (now (state .entry)) (length (now (journal .entry))) (inputLists (now (inputs .entry)))) (now (journal .entry)) (now (state .exit)) (now (journal .exit)) r ⌝ }
+{
+    let standing = standing::standing_in(state);
+    let ended = runlist::run_list(score, head, standing, inputs, journal);
+    keep(state, head.agents, ended);
+    let stop = ended.stop;
+    reply_of(stop, ended.instants)
+}
+
+// Whether a buffer has another length than it should.
+fn wrong_length(state: usize, scratch: usize) -> bool
+    ensures { λ r. ⌜ r ≡ (not (eqb state stateBytes) || not (eqb scratch scratchBytes)) ⌝ }
+{
+    (state != lent::STATE_BYTES) | (scratch != lent::SCRATCH_BYTES)
+}
+
+// The reply by the reason for the stop.
+fn reply_of(stop: Stop, instants: usize) -> Reply
+    ensures { λ r. ⌜ r ≡ ending stop instants ⌝ }
+{
+    match stop {
+        Stop::Not => Reply::Accepted(instants),
+        Stop::Next => Reply::Unlawful,
+        Stop::Room => Reply::Full(instants),
+    }
+}
+
+// Writes the state after a run that wrote an instant.
+fn keep(state: &mut [u8], agents: usize, ended: Ended)
+    requires { ⌜ length (now state) ≡ stateBytes ⌝ }
+    requires { ⌜ LawfulState agents (stateIn (ended .standing)) ⌝ }
+    ensures { λ _. ⌜ now (state .exit) ≡ cond (eqb (ended .instants) 0) (now (state .entry)) (asBytes (stateIn (ended .standing))) ⌝ }
+{
+    if ended.instants == 0 {
+        return;
+    }
+    let standing = ended.standing;
+    standing::write_standing(state, agents, standing);
+}

@@ -1,0 +1,4 @@
+pub mod Took
+pub mod Runs
+pub mod Counts
+pub mod Exact

@@ -1,0 +1,81 @@
+-- One instant of a run: played, and written if it can be.
+--     took             what the parts return is the instant
+--     goes-not, not-goes, not-stopped, took-fits
+--                      whether it is written
+use mathlib.Core.Path.{_≡_, refl, sym, ap, ap₂, subst⁻¹, _∙_}
+use mathlib.Core.Bool.{Bool, true, false, cond}
+use mathlib.Core.List.{List, _++_}
+use Prim.Native.Nat.{ℕ, _*_, _≤_}
+use native.Mathlib.Omega.{arith}
+use borrow.Author.Tests.{leb-true}
+use lib.Dec.{leb}
+use lib.ListN.{length, drop}
+use Rattle.tcc.specs.Instant.{State, Answer, answer, after}
+use Rattle.tcc.proofs.Sets.{true-is-false}
+use Rattle.format.specs.Decode.{sizes, decode}
+use Rattle.format.specs.Playable.{Playable}
+use Rattle.store.specs.Flags.{setOf}
+use Rattle.bits.specs.Bits.{bytesOf}
+use Rattle.lent.specs.States.{stateFault, asBytes, LawfulState}
+use Rattle.standing.specs.Standing.{stateIn}
+use Rattle.journal.specs.History.{instantWords, entry}
+use Rattle.history.specs.declared.Step.{Step}
+use Rattle.history.specs.Stepped.{Stepped}
+use Rattle.history.proofs.FromStanding.{words-are}
+use Rattle.runlist.specs.declared.Stop.{Stop}
+use Rattle.runlist.specs.declared.Stop.the-variants.{Not, Next, Room}
+use Rattle.runlist.specs.declared.Taken.{Taken}
+use Rattle.runlist.specs.Run.{stopBy, goesOn, stopAt}
+use Rattle.runlist.specs.Advance.{Advanced}
+
+module _ (score : List ℕ) (p : Playable score) (st : State) (inputs : List ℕ) (s : Step) (is : Stepped score (answer (decode score) st inputs) s) where
+  abbrev a : Answer
+  a = answer (decode score) st inputs
+
+  abbrev words : List ℕ
+  words = instantWords (s .status) inputs (setOf (s .out))
+
+  are : words ≡ entry (decode score) inputs a
+  are = words-are score p st inputs is
+
+  pub took : (t : Taken) (before after′ : List ℕ) →
+      t .bytes ≡ 4 * length words →
+      t .stop ≡ stopBy (s .unlawful) (t .bytes) (length before) →
+      t .standing ≡ s .standing →
+      (t .stop ≡ Not → after′ ≡ bytesOf words ++ drop (4 * length words) before) →
+      ((t .stop ≡ Not → ⊥) → after′ ≡ before) →
+      Advanced score a (entry (decode score) inputs a) before after′ t
+  unfolding stopAt
+  took t before after′ b stop stands w k = record {
+    stop-is = stop ∙ ap₂ (λ x y. stopBy x y (length before)) (is .unlawful-is) bytes;
+    bytes-are = bytes;
+    written = λ q. w q ∙ ap (λ ws. bytesOf ws ++ drop (4 * length ws) before) are;
+    kept = k;
+    stands = ap stateIn stands ∙ is .stands;
+    lawful = subst⁻¹ (λ x. LawfulState (sizes score .agents) (stateIn x)) stands (is .lawful);
+  }
+    where
+      bytes : t .bytes ≡ 4 * length (entry (decode score) inputs a)
+      bytes = b ∙ ap (λ ws. 4 * length ws) are
+
+pub goes-not : (stop : Stop) → goesOn stop ≡ true → stop ≡ Not
+goes-not Not e = refl
+goes-not Next e = absurd (true-is-false e refl)
+goes-not Room e = absurd (true-is-false e refl)
+
+pub not-goes : {stop : Stop} → goesOn stop ≡ false → stop ≡ Not → ⊥
+not-goes e q = true-is-false (ap goesOn q) e
+
+-- an instant that is written fits
+pub not-stopped : (unlawful : Bool) (needed room : ℕ) → goesOn (stopBy unlawful needed room) ≡ true → needed ≤ room
+not-stopped true needed room e = absurd (true-is-false e refl)
+not-stopped false needed room e = go (leb needed room) refl e
+  where
+    go : (b : Bool) → leb needed room ≡ b → goesOn (cond b Not Room) ≡ true → needed ≤ room
+    go true p q = leb-true needed room p
+    go false p q = absurd (true-is-false q refl)
+
+pub took-fits : {score ws room room′ : List ℕ} {a : Answer} {t : Taken} → Advanced score a ws room room′ t → goesOn (t .stop) ≡ true → t .bytes ≤ length room
+unfolding stopAt
+took-fits {score} {ws} {room} {room′} {a} {t} took e =
+    omega (arith, took .bytes-are, not-stopped (stateFault (sizes score .agents) (asBytes (after a))) (4 * length ws) (length room) (ap goesOn (sym (took .stop-is)) ∙ e))

@@ -1,0 +1,21 @@
+-- `stop_by`: by the two tests, in turn.
+use mathlib.Core.Path.{ap, sym, _∙_}
+use mathlib.Core.Bool.{cond}
+use native.Mathlib.Omega.{arith}
+use borrow.Author.Tests.{le-leb, lt-leb}
+use Rattle.runlist.specs.declared.Stop.the-variants.{Not, Next, Room}
+use Rattle.runlist.specs.Run.{stopBy}
+use Rattle.runlist.proofs.stop_by.Statement.{statement}
+use Rattle.runlist.proofs.stop_by.Tie as tie
+
+returns : tie.Need-returns
+returns c = rw (c .if1 .taken)
+
+returns-2 : tie.Need-returns-2
+returns-2 c = rw (c .before .if1 .left, le-leb (c .before .before .args .needed) (c .before .before .args .room) (omega arith))
+
+returns-3 : tie.Need-returns-3
+returns-3 c = rw (c .before .if1 .left, lt-leb (c .before .before .args .needed) (c .before .before .args .room) (omega arith))
+
+pub stop-by-spec : {M : Type 1} → statement M
+stop-by-spec = tie.close (tie.spec returns returns-2 returns-3)

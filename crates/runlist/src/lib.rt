@@ -1,0 +1,140 @@
+ghost use mathlib.Core.Path.{_≡_};
+ghost use mathlib.Core.Bool.{false};
+ghost use mathlib.Core.List.{List};
+ghost use Prim.Native.Nat.{ℕ, _≤_};
+ghost use lib.ListN.{length, getD};
+ghost use Rattle.tcc.specs.Instant.{answer};
+ghost use Rattle.format.specs.Decode.{sizes, decode};
+ghost use Rattle.format.specs.Playable.{Playable};
+ghost use Rattle.store.specs.Flags.{setOf};
+ghost use Rattle.lent.specs.States.{stateOf, LawfulState};
+ghost use Rattle.standing.specs.Standing.{stateIn};
+ghost use Rattle.form.specs.declared.Form.the-variants.{Good};
+ghost use Rattle.form.specs.Form.{formOf};
+ghost use Rattle.parts.specs.Instants.{inputLists};
+ghost use Rattle.journal.specs.History.{entry};
+ghost use Rattle.runlist.specs.Run.{stopBy, goesOn, runFrom};
+ghost use Rattle.runlist.specs.Advance.{Advanced, RanTo};
+use format::Sizes;
+use standing::Standing;
+use form::Form;
+use store::Tokens;
+
+// Why an instant of a run is not written.
+pub enum Stop {
+    Not,
+    // The next state would not be one of the score's.
+    Next,
+    // Its words exceed the journal bytes left.
+    Room,
+}
+
+// One instant of a run: why it is not written, its bytes, and where the score stands after it.
+struct Taken {
+    stop: Stop,
+    bytes: usize,
+    standing: Standing,
+}
+
+// The end of a run: why it stopped, the instants written, and where the score stands.
+pub struct Ended {
+    pub stop: Stop,
+    pub instants: usize,
+    pub standing: Standing,
+}
+
+// Plays the instants of a list of good form and writes each whole one that fits.
+pub fn run_list(
+    score: &[u8],
+    head: Sizes,
+    standing: Standing,
+    inputs: &[u8],
+    journal: &mut [u8],
+) -> Ended
+    requires { ⌜ head ≡ sizes (now score) ⌝ }
+    requires { ⌜ Playable (now score) ⌝ }
+    requires { ⌜ LawfulState (sizes (now score) .agents) (stateIn standing) ⌝ }
+    requires { ⌜ formOf false (sizes (now score) .tokens) (now inputs) ≡ Good ⌝ }
+    ensures { λ r. ⌜ ((s : List ℕ) → stateOf s ≡ stateIn standing → RanTo (now (score .entry)) s (now (journal .entry)) (now (journal .exit)) (runFrom (now (score .entry)) s (length (now (journal .entry))) (inputLists (now (inputs .entry)))) r) ⌝ }
+{
+    let mut stands = standing;
+    let mut instants = 0;
+    let mut at = 0;
+    let mut filled = 0;
+    while at < inputs.len() {
+        let here = parts::part(inputs, Form::Good, at);
+        let told = parts::tokens_in(here, 13);
+        let taken = advance(score, head, stands, told, &mut journal[filled..]);
+        let stop = taken.stop;
+        if goes_on(stop) {
+            stands = taken.standing;
+            instants += 1;
+            at += here.len();
+            filled += taken.bytes;
+        } else {
+            return Ended {
+                stop,
+                instants,
+                standing: stands,
+            };
+        }
+    }
+    Ended {
+        stop: Stop::Not,
+        instants,
+        standing: stands,
+    }
+}
+
+// Plays one instant and writes it at the front of a journal buffer, if it can be written.
+fn advance(score: &[u8], head: Sizes, standing: Standing, told: Tokens, journal: &mut [u8]) -> Taken
+    requires { ⌜ head ≡ sizes (now score) ⌝ }
+    requires { ⌜ Playable (now score) ⌝ }
+    requires { ⌜ LawfulState (sizes (now score) .agents) (stateIn standing) ⌝ }
+    requires { ⌜ ((t : ℕ) → sizes (now score) .tokens ≤ t → getD told t false ≡ false) ⌝ }
+    ensures { λ r. ⌜ Advanced (now (score .entry)) (answer (decode (now (score .entry))) (stateIn standing) (setOf told)) (entry (decode (now (score .entry))) (setOf told) (answer (decode (now (score .entry))) (stateIn standing) (setOf told))) (now (journal .entry)) (now (journal .exit)) r ⌝ }
+{
+    let step = history::step_from(score, head, standing, told);
+    let out = step.out;
+    let after = step.standing;
+    let bytes = journal::size(head.tokens, &told, &out);
+    let stop = stop_by(step.unlawful, bytes, journal.len());
+    if goes_on(stop) {
+        journal::write(journal, step.status, head.tokens, &told, &out);
+        return Taken {
+            stop,
+            bytes,
+            standing: after,
+        };
+    }
+    Taken {
+        stop,
+        bytes,
+        standing: after,
+    }
+}
+
+// Why an instant is not written: the one place where a run decides to stop.
+fn stop_by(unlawful: bool, needed: usize, room: usize) -> Stop
+    ensures { λ r. ⌜ r ≡ stopBy unlawful needed room ⌝ }
+{
+    if unlawful {
+        return Stop::Next;
+    }
+    if needed <= room {
+        Stop::Not
+    } else {
+        Stop::Room
+    }
+}
+
+// Whether a run goes on.
+fn goes_on(stop: Stop) -> bool
+    ensures { λ r. ⌜ r ≡ goesOn stop ⌝ }
+{
+    match stop {
+        Stop::Not => true,
+        Stop::Next => false,
+        Stop::Room => false,
+    }
+}
