@@ -18,11 +18,11 @@ use lib.Bits.{bitOr, or-shifted-r}
 use lib.Dec.{eqb, leb}
 use borrow.Author.Tests.{ne-eqb, le-leb, lt-leb}
 use lib.Pow.{pow-pos, pow-lt, pow-mono, pow-add, high}
-use Rattle.tcc.specs.Sets.{below, any}
+use Rattle.laws.specs.Sets.{below, any}
 use mir.Val.{boolByte}
+use Rattle.laws.proofs.Any.{any-more, any-none}
 use Rattle.words.specs.Word.{field}
 use Rattle.bits.specs.Bits.{bitAt, bitsValue}
-use Rattle.bits.proofs.Any.{any-more, any-none}
 
 placed : (b : Bool) (n : ℕ) → cond b (2 ^ n) 0 ≡ boolByte b * 2 ^ n
 placed true n = sym (one-mul (2 ^ n))

@@ -1,12 +1,11 @@
 -- Laws of words as bytes.
 --     bytesOf-length     four bytes for every word
 --     bytesOf-append     one list of words after the other
---     map-snoc, map-same laws of images
 --     Written            a buffer with words written from its front
 --     written-more       one word more
 --     written-all        words as many as the buffer holds
 use mathlib.Core.Path.{_≡_, refl, sym, ap, ap₂, _∙_}
-use mathlib.Core.List.{List, [], _∷_, _++_, map, append-nil}
+use mathlib.Core.List.{List, [], _∷_, _++_, append-nil}
 use Prim.Native.Nat.{ℕ, _+_, _*_, _≤_}
 use native.Mathlib.Omega.{arith}
 use lib.ListN.{length, take, drop, length-append, drop-of-length-le}
@@ -22,14 +21,6 @@ pub bytesOf-append : (ws vs : List ℕ) → bytesOf (ws ++ vs) ≡ bytesOf ws ++
 unfolding bytesOf
 bytesOf-append [] vs = refl
 bytesOf-append (w ∷ ws) vs = let e : bytesOf (ws ++ vs) ≡ bytesOf ws ++ bytesOf vs = bytesOf-append ws vs in cc
-
-pub map-snoc : {A B : Type 0} (f : A → B) (l : List A) (x : A) → map f (l ++ (x ∷ [])) ≡ map f l ++ (f x ∷ [])
-map-snoc f [] x = refl
-map-snoc f (y ∷ l) x = ap (λ k. f y ∷ k) (map-snoc f l x)
-
-pub map-same : {A B : Type 0} (f g : A → B) (l : List A) → ((x : A) → f x ≡ g x) → map f l ≡ map g l
-map-same f g [] h = refl
-map-same f g (x ∷ l) h = ap₂ _∷_ (h x) (map-same f g l h)
 
 abbrev pub Written : List ℕ → List ℕ → List ℕ
 Written ws s = bytesOf ws ++ drop (4 * length ws) s

@@ -20,11 +20,13 @@ use lib.ListN.{length, getD, set, replicate, length-set, length-replicate, getD-
 use lib.Seq.{getD-set-same, getD-set-other, ext-getD}
 use lib.Dec.{leb}
 use borrow.Author.Tests.{leb-true, le-leb}
-use Rattle.tcc.specs.Sets.{below, keep, any, has}
-use Rattle.tcc.proofs.Sets.{true-is-false, any-some, some-any, on-keep, keep-kept, keep-agrees, below-lt, lt-below, member-has, not-has}
+use Rattle.laws.specs.Sets.{below, keep, any, has}
+use Rattle.laws.proofs.Booleans.{true-is-false}
+use Rattle.laws.proofs.Sets.{any-some, some-any, on-keep, keep-kept, keep-agrees, below-lt, lt-below, member-has, not-has}
 use Rattle.store.specs.Flags.{setOf, flagsOf}
 use Rattle.store.proofs.Flags.{flag-member, member-flag, flagsOf-length, flagsOf-flag}
-use Rattle.bits.specs.Bits.{bitAt, Spread}
+use Rattle.bits.specs.Bits.{bitAt}
+use Rattle.bits.specs.Spread.{Spread}
 use Rattle.bits.proofs.Bits.{bit-none}
 
 pub has-kept : (f : ℕ → Bool) (n i : ℕ) → i < n → has i (keep f (below n)) ≡ f i

@@ -1,4 +1,3 @@
-pub mod Any
 pub mod Bits
 pub mod Filled
 pub mod Bytes

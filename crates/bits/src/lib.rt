@@ -4,9 +4,10 @@ ghost use mathlib.Core.List.{[], _∷_, _++_};
 ghost use Prim.Native.Nat.{ℕ, _+_, _*_, _-_, _/_, _^_, _≤_};
 ghost use lib.ListN.{length, replicate, getD, take, drop};
 ghost use lib.Dec.{eqb, leb};
-ghost use Rattle.tcc.specs.Sets.{any};
+ghost use Rattle.laws.specs.Sets.{any};
 ghost use Rattle.store.specs.Flags.{setOf};
-ghost use Rattle.bits.specs.Bits.{bitsValue, bytesOf, Spread};
+ghost use Rattle.bits.specs.Bits.{bitsValue, bytesOf};
+ghost use Rattle.bits.specs.Spread.{Spread};
 
 // Clears a buffer.
 pub fn clear(bytes: &mut [u8])

@@ -1,4 +1,3 @@
-pub mod Fill
 pub mod ProcedureSets
 pub mod Rows
 pub mod Leads

@@ -12,8 +12,8 @@ use native.Mathlib.Nat.{not-suc-le-zero}
 use native.Mathlib.Omega.{arith}
 use lib.ListN.{length, getD, set}
 use lib.Seq.{getD-set-other}
+use Rattle.laws.proofs.Lists.{filled-more}
 use Rattle.calltable.specs.Calls.{called, Stepped, Linked, one, more, Closed}
-use Rattle.calltable.proofs.Fill.{filled-more}
 
 -- what row p marks after the step through k
 abbrev stepped : ℕ → List (List Bool) → ℕ → ℕ → Bool

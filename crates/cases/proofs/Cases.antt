@@ -8,11 +8,11 @@ use Prim.Native.Nat.{ℕ, _+_, _*_, _/_, _%_}
 use native.Mathlib.Omega.{arith}
 use lib.Dec.{leb}
 use lib.ListN.{length, take, drop-of-length-le}
+use Rattle.laws.specs.Sets.{any}
+use Rattle.laws.proofs.Sets.{some-any, keep-kept, lt-below}
 use Rattle.tcc.specs.Closure.{fires, firing, closeWithin, close}
-use Rattle.tcc.specs.Sets.{any}
 use Rattle.tcc.specs.Unguarded.{metFrom, circular}
 use Rattle.tcc.specs.Instant.{running, reached, instant, output, answer, answers}
-use Rattle.tcc.proofs.Sets.{some-any, keep-kept, lt-below}
 use Rattle.words.specs.Word.{words, wordAt, field}
 use Rattle.words.specs.Map.{inMap}
 use Rattle.format.specs.Format.{isWord, decodeAgent}
@@ -25,10 +25,10 @@ use Rattle.scorefile.specs.Check.{verdict}
 use Rattle.bits.specs.Bits.{bitAt, bitsValue, bytesOf}
 use Rattle.lent.specs.Maps.{tokensIn}
 use Rattle.lent.specs.States.{agentsIn, stateFault, agentWords, asBytes, LawfulState}
+use Rattle.lent.specs.Lengths.{stateBytes, mapBytes, scratchBytes, noScratch}
 use Rattle.lent.proofs.Faults.{fault-running}
 use Rattle.lent.proofs.Round.{lawful-bytes}
 use Rattle.instant.specs.declared.Reply.the-variants.{State, Input}
-use Rattle.lent.specs.Lengths.{stateBytes, mapBytes, scratchBytes, noScratch}
 use Rattle.instant.specs.InstantCall.{Lent, lent, lengthFault, tokenFault, kept, exit}
 use Rattle.form.specs.declared.Form.the-variants.{Good}
 use Rattle.form.specs.Form.{mayFollow, firstAgainst, formOf}

@@ -6,18 +6,16 @@ use mathlib.Core.Path.{_≡_, refl, sym, subst}
 use mathlib.Core.Bool.{false, cond}
 use mathlib.Core.List.{List, [], _∷_, List·Memᴰ·head, List·Memᴰ·tail}
 use Prim.Native.Nat.{ℕ, _*_, _-_}
-use native.Mathlib.Omega.{arith}
 use lib.Dec.{leb}
 use lib.ListN.{length}
+use Rattle.laws.proofs.Sets.{Within}
 use Rattle.tcc.specs.Score.{Score}
 use Rattle.tcc.specs.Lawful.{Lawful}
 use Rattle.tcc.specs.Instant.{State, answer, after}
-use Rattle.tcc.proofs.Sets.{Within}
 use Rattle.format.specs.Decode.{sizes, decode}
 use Rattle.format.proofs.Decode.{decode-tokens, sizes-few, playable-agents}
 use Rattle.verdicts.specs.Verdicts.{numberOf}
 use Rattle.scorefile.specs.Check.{verdict}
-use Rattle.verdicts.proofs.Verdicts.{accepted-only}
 use Rattle.scorefile.proofs.Stages.{playable}
 use Rattle.lent.specs.States.{asBytes, LawfulState}
 use Rattle.lent.proofs.Round.{asBytes-length, lawful-bytes}
@@ -26,10 +24,10 @@ use Rattle.form.specs.Form.{formOf}
 use Rattle.parts.specs.Instants.{inputLists}
 use Rattle.journal.specs.History.{entry, Rising}
 use Rattle.journal.proofs.Forms.{good-inputs}
+use Rattle.history.proofs.Stands.{written-stands, instant-entry, after-bytes, next-lawful, instant-lawful}
 use Rattle.runlist.specs.declared.Stop.the-variants.{Not, Room}
 use Rattle.runlist.specs.Run.{stopAt, Ran, stopped, unlessStopped, runFrom}
 use Rattle.run.specs.RunCall.{lent, ended, exit}
-use Rattle.history.proofs.Stands.{written-stands, instant-entry, after-bytes, next-lawful, instant-lawful}
 
 unfoldable pub playOn : Score → State → ℕ → List (List ℕ) → Ran
 playOn sc st room [] = stopped (asBytes st) Not

@@ -12,18 +12,18 @@ use mathlib.Core.Path.{_≡_}
 use mathlib.Core.List.{List, [], _∷_, map}
 use Prim.Native.Nat.{ℕ, _/_, _%_, _^_}
 use lib.ListN.{length, take, set, replicate}
-use Rattle.tcc.specs.Sets.{below, keep, has}
+use Rattle.laws.specs.Sets.{below, keep, has}
 use Rattle.tcc.specs.Score.{Score}
 use Rattle.tcc.specs.Weight.{weight}
 use Rattle.tcc.specs.Instant.{Answer, count, running, startState, answers}
+use Rattle.format.specs.Decode.{decode}
 use Rattle.verdicts.specs.declared.Verdict.{Verdict}
 use Rattle.verdicts.specs.declared.Verdict.the-variants.{Accepted, Length, Token, Reference, Circle}
-use Rattle.format.specs.Decode.{decode}
 use Rattle.scorefile.specs.Check.{verdict}
 use Rattle.lent.specs.States.{asBytes}
+use Rattle.lent.specs.Lengths.{mapBytes, scratchBytes, noScratch}
 use Rattle.instant.specs.declared.Reply.{Reply}
 use Rattle.instant.specs.declared.Reply.the-variants.{State, Input}
-use Rattle.lent.specs.Lengths.{mapBytes, scratchBytes, noScratch}
 use Rattle.instant.specs.InstantCall.{Exit, lent, exit}
 use Rattle.history.specs.declared.Reply.{Reply as RunReply}
 use Rattle.history.specs.declared.Reply.the-variants as run-reply

@@ -21,17 +21,17 @@ use lib.ListN.{length, getD}
 use Rattle.tcc.specs.Score.{Score, rootOf}
 use Rattle.tcc.specs.Unguarded.{Leads, Reaches, circular, one as one-call, more as more-calls}
 use Rattle.tcc.proofs.Unguarded.{CallsKnown, leads-known, circular-exact, call-free}
+use Rattle.format.specs.Decode.{sizes, decode}
+use Rattle.format.proofs.Decode.{decode-roots}
 use Rattle.verdicts.specs.declared.Verdict.{Verdict}
 use Rattle.verdicts.specs.declared.Verdict.the-variants.{Accepted, Circle}
 use Rattle.verdicts.specs.Verdicts.{numberOf}
+use Rattle.faults.specs.Faultless.{Faultless}
+use Rattle.faults.proofs.Accepted.{procedures-known, roots-known}
+use Rattle.calltable.specs.Calls.{called, Direct, Linked, one, more, Closed, inSet, Gathered}
+use Rattle.calltable.proofs.ProcedureSets.{inSet-none, inSet-some}
 use Rattle.circles.specs.Circles.{circleFrom}
 use Rattle.circles.specs.Lowest.{UnguardedCall, LowestCircular}
-use Rattle.calltable.specs.Calls.{called, Direct, Linked, one, more, Closed, inSet, Gathered}
-use Rattle.format.specs.Decode.{sizes, decode}
-use Rattle.format.proofs.Decode.{decode-roots}
-use Rattle.faults.specs.Faults.{Faultless}
-use Rattle.faults.proofs.Accepted.{procedures-known, roots-known}
-use Rattle.calltable.proofs.ProcedureSets.{inSet-none, inSet-some}
 
 same-truth : (a b : Bool) → (a ≡ true → b ≡ true) → (b ≡ true → a ≡ true) → a ≡ b
 same-truth true b f g = sym (f refl)

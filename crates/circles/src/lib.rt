@@ -2,10 +2,10 @@ ghost use mathlib.Core.Path.{_≡_};
 ghost use Prim.Native.Nat.{_≤_};
 ghost use lib.ListN.{length};
 ghost use Rattle.format.specs.Decode.{sizes, decode};
-ghost use Rattle.faults.specs.Faults.{Faultless};
+ghost use Rattle.faults.specs.Faultless.{Faultless};
+ghost use Rattle.calltable.specs.Calls.{Gathered, Direct, Exactly};
 ghost use Rattle.circles.specs.Circles.{circleFrom};
 ghost use Rattle.circles.specs.Lowest.{UnguardedCall, LowestCircular};
-ghost use Rattle.calltable.specs.Calls.{Gathered, Direct, Exactly};
 use format::Sizes;
 use verdicts::Verdict;
 

@@ -13,21 +13,19 @@ use native.Mathlib.Omega.{arith}
 use borrow.Author.Tests.{leb-true}
 use lib.Dec.{leb}
 use lib.ListN.{length}
+use Rattle.laws.proofs.Sets.{any-some, none-above}
 use Rattle.tcc.specs.Lawful.{Lawful}
 use Rattle.tcc.specs.Instant.{Answer, answer, after}
-use Rattle.tcc.proofs.Sets.{any-some}
 use Rattle.format.specs.Decode.{sizes, decode}
 use Rattle.format.proofs.Decode.{decode-tokens, sizes-few, playable-agents}
 use Rattle.verdicts.specs.Verdicts.{numberOf}
 use Rattle.scorefile.specs.Check.{verdict}
-use Rattle.verdicts.proofs.Verdicts.{accepted-only}
-use Rattle.faults.proofs.Accepted.{none-above}
 use Rattle.scorefile.proofs.Stages.{playable}
 use Rattle.lent.specs.Maps.{tokensIn}
 use Rattle.lent.specs.States.{stateFault, stateOf, asBytes, LawfulState}
 use Rattle.lent.proofs.Round.{faultless-lawful}
-use Rattle.instant.specs.InstantCall.{tokenFault}
 use Rattle.standing.proofs.Inside.{Inside, answer-inside, next-lawful}
+use Rattle.instant.specs.InstantCall.{tokenFault}
 
 abbrev pub given : List ℕ → List ℕ → List ℕ → Answer
 given score s inputs = answer (decode score) (stateOf s) inputs

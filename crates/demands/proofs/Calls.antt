@@ -6,7 +6,7 @@ use mathlib.Core.Path.{_≡_, subst, _∙_}
 use mathlib.Core.List.{List, [], _∷_, _++_, List·Memᴰ}
 use Prim.Native.Nat.{ℕ}
 use native.Mathlib.Decide.{ℕ-discrete}
-use Rattle.tcc.proofs.Sets.{on-cons}
+use Rattle.laws.proofs.Sets.{on-cons}
 use Rattle.lent.specs.Maps.{tokensIn}
 use Rattle.answer.specs.Answer.{numberIn}
 use Rattle.demands.specs.Calls.{Call, instant, run, Meets, InTurn, then, Answered, answeredBy, Answers, one, refused, those}

@@ -6,13 +6,13 @@
 use mathlib.Core.Path.{subst}
 use mathlib.Core.List.{List, _∷_, _++_, map}
 use Prim.Native.Nat.{ℕ}
-use Rattle.tcc.specs.Sets.{Same}
+use Rattle.laws.specs.Sets.{Same}
+use Rattle.laws.proofs.Sets.{same-refl}
 use Rattle.tcc.specs.Lawful.{AgentsBelow}
 use Rattle.tcc.specs.Order.{Item, End, Order, Finished, start}
 use Rattle.tcc.specs.Weight.{IsWeight, weight}
 use Rattle.tcc.specs.Instant.{running, stateAfter}
 use Rattle.tcc.specs.Chain.{Chain, AtInstant as Along}
-use Rattle.tcc.proofs.Sets.{same-refl}
 use Rattle.tcc.proofs.Weight.{one-weight}
 use Rattle.tcc.proofs.Chain.{along}
 use Rattle.format.specs.Decode.{decode}

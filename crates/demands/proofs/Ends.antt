@@ -11,13 +11,14 @@ use Prim.Native.Nat.{ℕ, suc, _+_, _-_, _<_}
 use native.Mathlib.Omega.{arith}
 use borrow.Author.Tests.{lt-ltb, ne-eqb}
 use lib.Dec.{ltb}
-use Rattle.tcc.specs.Sets.{Same, below, keep, has}
+use Rattle.laws.specs.Sets.{Same, below, keep, has}
+use Rattle.laws.proofs.Booleans.{true-is-false}
+use Rattle.laws.proofs.Sets.{Within, has-member, member-has, on-keep, keep-kept, same-sym, same-trans}
 use Rattle.tcc.specs.Score.{Score}
 use Rattle.tcc.specs.Order.{Item, End, aborted, left, awakeNext}
 use Rattle.tcc.specs.Instant.{Answer, abortedAnswer, output, running, answer, after}
 use Rattle.tcc.specs.Instant as state
 use Rattle.tcc.specs.Confluence.{QuietAs, EndsAs}
-use Rattle.tcc.proofs.Sets.{Within, true-is-false, has-member, member-has, on-keep, keep-kept, same-sym, same-trans}
 use Rattle.tcc.proofs.SameAnswer.{SameAnswer}
 use Rattle.format.specs.Decode.{decode}
 use Rattle.lent.specs.Maps.{tokensIn, mapOf}

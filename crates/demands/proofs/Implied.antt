@@ -12,7 +12,8 @@ use mathlib.Core.Logic.{⊎-elim}
 use Prim.Native.Nat.{ℕ, _<_, _≤_}
 use native.Mathlib.Omega.{arith}
 use lib.ListN.{length, take}
-use Rattle.tcc.specs.Sets.{Same}
+use Rattle.laws.specs.Sets.{Same}
+use Rattle.laws.proofs.Sets.{map-member, same-refl, same-sym, same-trans}
 use Rattle.tcc.specs.Score.{Score, agentAt}
 use Rattle.tcc.specs.Store.{Closes}
 use Rattle.tcc.specs.Order.{Item, agent, input, left, Order, Quiet, wakes, awakeNext, start}
@@ -20,7 +21,6 @@ use Rattle.tcc.specs.Weight.{IsWeight, total}
 use Rattle.tcc.specs.Instant.{running}
 use Rattle.tcc.specs.Chain.{Chain, none, then}
 use Rattle.tcc.specs.declared.Agent.the-variants.{Next}
-use Rattle.tcc.proofs.Sets.{map-member, same-refl, same-sym, same-trans}
 use Rattle.tcc.proofs.Order.{Done, order-ran}
 use Rattle.format.specs.Decode.{decode}
 use Rattle.lent.specs.Maps.{tokensIn}
@@ -29,8 +29,8 @@ use Rattle.lent.proofs.Round.{state-round}
 use Rattle.lent.proofs.SameState.{state-running}
 use Rattle.instant.specs.InstantCall.{Lent}
 use Rattle.parts.specs.Instants.{inputLists}
-use Rattle.answer.specs.Answer.{numberIn, valueIn}
 use Rattle.run.specs.RunCall.{Lent as RunLent}
+use Rattle.answer.specs.Answer.{numberIn, valueIn}
 use Rattle.score.specs.ScoreInstant.{ScoreInstant}
 use Rattle.score.specs.ScoreRun.{ScoreRun}
 use Rattle.demands.specs.Calls.{Call, instant, run, InTurn, Answered, answeredBy, written, Plays, Answers, one, refused, those}

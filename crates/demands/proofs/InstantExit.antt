@@ -10,13 +10,13 @@ use Prim.Native.Nat.{ℕ}
 use native.Mathlib.Omega.{arith}
 use borrow.Author.Tests.{eqb-true, eqb-false, not-true, not-false}
 use lib.Dec.{eqb}
+use Rattle.laws.proofs.Booleans.{true-is-false, by-test}
 use Rattle.tcc.specs.Instant.{after}
-use Rattle.tcc.proofs.Sets.{true-is-false}
 use Rattle.format.specs.Decode.{sizes, decode}
 use Rattle.verdicts.specs.declared.Verdict.{Verdict}
 use Rattle.verdicts.specs.Verdicts as verdicts
-use Rattle.scorefile.specs.Check as check
 use Rattle.verdicts.proofs.Verdicts.{number-few}
+use Rattle.scorefile.specs.Check as check
 use Rattle.lent.specs.Maps.{tokensIn}
 use Rattle.lent.specs.States.{stateFault, asBytes}
 use Rattle.instant.specs.declared.Reply.{Reply}
@@ -26,7 +26,6 @@ use Rattle.instant.proofs.Exits.{settled}
 use Rattle.answer.specs.Answer.{numberOf}
 use Rattle.answer.specs.Replies.{ofReply}
 use Rattle.answer.proofs.Replies.{reply-number}
-use Rattle.demands.proofs.Tests.{by-test}
 use Rattle.demands.proofs.Accepted.{given, next-faultless, input-known}
 
 pub record Fit (score input : List ℕ) (l : Lent) : Type 0 where

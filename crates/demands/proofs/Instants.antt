@@ -22,8 +22,8 @@ use Rattle.scorefile.specs.Check as check
 use Rattle.lent.specs.Maps.{tokensIn, mapOf}
 use Rattle.lent.specs.States.{stateFault, stateOf, asBytes, SameState}
 use Rattle.lent.proofs.Round.{state-round}
-use Rattle.instant.specs.InstantCall.{Lent, Exit, exit}
 use Rattle.standing.proofs.Inside.{Inside, after-lawful}
+use Rattle.instant.specs.InstantCall.{Lent, Exit, exit}
 use Rattle.journal.specs.History.{instantWords, entry}
 use Rattle.journal.proofs.Rising.{output-rising, rising-map}
 use Rattle.answer.specs.Answer.{numberOf, statusOf, numberIn, statusIn}

@@ -9,13 +9,13 @@ use mathlib.Core.List.{List, [], _∷_, map, flatten, List·Memᴰ·not-nil}
 use Prim.Native.Nat.{ℕ, suc}
 use native.Mathlib.Omega.{arith}
 use lib.ListN.{length, length-map}
+use Rattle.laws.proofs.Sets.{Within, on-cons, on-map}
 use Rattle.tcc.specs.Instant.{startState, after}
-use Rattle.tcc.proofs.Sets.{Within, on-cons, on-map}
+use Rattle.words.specs.Word.{words}
 use Rattle.format.specs.Decode.{sizes, decode}
 use Rattle.format.proofs.Decode.{decode-tokens}
 use Rattle.verdicts.specs.Verdicts as verdicts
 use Rattle.scorefile.specs.Check as check
-use Rattle.words.specs.Word.{words}
 use Rattle.bits.specs.Bits.{bytesOf}
 use Rattle.lent.specs.States.{stateFault, asBytes, LawfulState}
 use Rattle.lent.specs.Lengths.{scratchBytes, noScratch}
@@ -28,14 +28,14 @@ use Rattle.journal.proofs.Forms.{good-whole, good-instants, good-words, bytes-w
 use Rattle.journal.proofs.Histories.{history-joined, history-good, history-instants}
 use Rattle.history.specs.declared.Reply.{Reply}
 use Rattle.history.specs.declared.Reply.the-variants.{Unlawful, Differs, Accepted}
-use Rattle.answer.specs.Answer.{numberOf, valueOf}
-use Rattle.answer.specs.Replies.{ofRunReply}
 use Rattle.history.specs.AnswerIn.{answerIn}
 use Rattle.history.specs.ByForm.{byForm}
+use Rattle.history.proofs.Stands.{Stands, written-stands}
 use Rattle.journalcheck.specs.Check.{same, checkFrom}
 use Rattle.journalcheck.specs.JournalCheckCall.{left, checked, exit}
-use Rattle.history.proofs.Stands.{Stands, written-stands}
 use Rattle.journalcheck.proofs.Exact.{check-entries, check-exact}
+use Rattle.answer.specs.Answer.{numberOf, valueOf}
+use Rattle.answer.specs.Replies.{ofRunReply}
 use Rattle.score.specs.Slice.{Slice}
 use Rattle.demands.proofs.Accepted.{lawful, agents-counted}
 

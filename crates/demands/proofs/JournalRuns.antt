@@ -15,10 +15,10 @@ use Rattle.bits.specs.Bits.{bytesOf}
 use Rattle.lent.specs.States.{asBytes}
 use Rattle.parts.specs.Instants.{inputLists}
 use Rattle.journal.specs.History.{history}
-use Rattle.run.specs.RunCall.{Lent}
-use Rattle.runlist.proofs.Counts.{run-few}
 use Rattle.history.proofs.Stands.{Stands}
+use Rattle.runlist.proofs.Counts.{run-few}
 use Rattle.runlist.proofs.Exact.{run-history}
+use Rattle.run.specs.RunCall.{Lent}
 use Rattle.score.specs.ScoreRun.{ScoreRun}
 use Rattle.demands.specs.Calls.{written}
 use Rattle.demands.specs.JournalExact.{startHistory}

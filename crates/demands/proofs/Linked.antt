@@ -12,8 +12,8 @@ use mathlib.Core.Bool.{false}
 use mathlib.Core.List.{List, [], _∷_, _++_, map}
 use Prim.Native.Nat.{ℕ}
 use native.Mathlib.Omega.{arith}
+use Rattle.laws.proofs.Sets.{Within, on-cons}
 use Rattle.tcc.specs.Instant.{after, stateAfter}
-use Rattle.tcc.proofs.Sets.{Within, on-cons}
 use Rattle.format.specs.Decode.{sizes, decode}
 use Rattle.lent.specs.States.{stateFault, stateOf, SameState}
 use Rattle.lent.proofs.SameState.{state-refl, state-trans, along-same}

@@ -4,12 +4,12 @@
 use mathlib.Core.Path.{subst, subst⁻¹}
 use mathlib.Core.List.{List, []}
 use Prim.Native.Nat.{ℕ}
+use Rattle.laws.proofs.Sets.{same-refl}
 use Rattle.tcc.specs.Lawful.{AgentsBelow}
 use Rattle.tcc.specs.Store.{Closes}
 use Rattle.tcc.specs.Order.{Item, End, Order, Finished, start}
 use Rattle.tcc.specs.Instant.{answer}
 use Rattle.tcc.specs.Confluence.{EndsAs}
-use Rattle.tcc.proofs.Sets.{same-refl}
 use Rattle.tcc.proofs.Multiset.{start-below}
 use Rattle.tcc.proofs.Confluence.{confluence}
 use Rattle.tcc.proofs.Finishes.{finishes}

@@ -12,16 +12,16 @@ use native.Mathlib.Omega.{arith}
 use borrow.Author.Tests.{eqb-true, eqb-false, not-true, not-false}
 use lib.Dec.{eqb, leb}
 use lib.ListN.{length}
+use Rattle.laws.proofs.Booleans.{true-is-false, by-test}
 use Rattle.tcc.specs.Instant.{Answer, after}
-use Rattle.tcc.proofs.Sets.{true-is-false}
 use Rattle.format.specs.Decode.{sizes, decode}
 use Rattle.format.proofs.Decode.{decode-tokens}
 use Rattle.verdicts.specs.declared.Verdict.{Verdict}
 use Rattle.verdicts.specs.Verdicts as verdicts
+use Rattle.verdicts.proofs.Verdicts.{number-few}
 use Rattle.scorefile.specs.Check as check
 use Rattle.lent.specs.Lengths.{stateBytes, scratchBytes}
 use Rattle.lent.specs.States.{stateFault, asBytes}
-use Rattle.verdicts.proofs.Verdicts.{number-few}
 use Rattle.form.specs.declared.Form.{Form}
 use Rattle.form.specs.declared.Form.the-variants.{Good, Bytes, Word}
 use Rattle.form.specs.Form.{formOf}
@@ -29,17 +29,16 @@ use Rattle.parts.specs.Instants.{inputLists}
 use Rattle.journal.specs.History.{entry, Rising}
 use Rattle.journal.proofs.Forms.{good-inputs}
 use Rattle.journal.proofs.Rising.{rising-below}
-use Rattle.runlist.specs.declared.Stop.the-variants.{Not, Next, Room}
 use Rattle.history.specs.declared.Reply.{Reply}
 use Rattle.history.specs.declared.Reply.the-variants.{Score as Turned, Lengths, State, Bytes as NoWords, Word as Against}
+use Rattle.history.specs.AnswerIn.{answerIn}
+use Rattle.history.specs.ByForm.{byForm}
+use Rattle.runlist.specs.declared.Stop.the-variants.{Not, Next, Room}
+use Rattle.runlist.specs.Run.{stopAt, Ran, unlessStopped, runFrom}
+use Rattle.run.specs.RunCall.{Lent, Exit, lengthFault, kept, ended, exit}
 use Rattle.answer.specs.Answer.{numberOf}
 use Rattle.answer.specs.Replies.{ofRunReply}
 use Rattle.answer.proofs.Replies.{reply-number}
-use Rattle.history.specs.AnswerIn.{answerIn}
-use Rattle.history.specs.ByForm.{byForm}
-use Rattle.runlist.specs.Run.{stopAt, Ran, unlessStopped, runFrom}
-use Rattle.run.specs.RunCall.{Lent, Exit, lengthFault, kept, ended, exit}
-use Rattle.demands.proofs.Tests.{by-test}
 use Rattle.demands.proofs.Accepted.{given, next-faultless}
 
 abbrev pub Rises : List ℕ → List (List ℕ) → Type 0

@@ -13,22 +13,22 @@ use Prim.Native.Nat.{ℕ, zero, suc, _*_, _-_}
 use native.Mathlib.Omega.{arith}
 use borrow.Author.Tests.{ne-eqb}
 use lib.ListN.{length, take, drop}
+use Rattle.laws.proofs.Sets.{on-cons}
 use Rattle.tcc.specs.Instant.{Answer, after}
-use Rattle.tcc.proofs.Sets.{on-cons}
 use Rattle.format.specs.Decode.{decode}
 use Rattle.bits.specs.Bits.{bytesOf}
 use Rattle.lent.specs.States.{asBytes}
 use Rattle.parts.specs.Instants.{inputLists}
 use Rattle.journal.specs.History.{entry}
-use Rattle.answer.specs.Answer.{numberOf, valueOf, numberIn, valueIn}
-use Rattle.answer.specs.Replies.{ofRunReply}
-use Rattle.score.specs.ScoreRun.{ScoreRun}
+use Rattle.history.specs.AnswerIn.{answerIn}
 use Rattle.runlist.specs.declared.Stop.{Stop}
 use Rattle.runlist.specs.declared.Stop.the-variants.{Not, Next, Room}
-use Rattle.history.specs.AnswerIn.{answerIn}
 use Rattle.runlist.specs.Run.{stopAt, Ran, unlessStopped, runFrom}
 use Rattle.run.specs.RunCall.{ending, ended}
 use Rattle.run.specs.RunCall as run
+use Rattle.answer.specs.Answer.{numberOf, valueOf, numberIn, valueIn}
+use Rattle.answer.specs.Replies.{ofRunReply}
+use Rattle.score.specs.ScoreRun.{ScoreRun}
 use Rattle.score.proofs.ScoreRun.{read}
 use Rattle.demands.specs.Calls.{Answered, written, Plays, none, then}
 use Rattle.demands.specs.Determinacy.{shownBy, Shows}

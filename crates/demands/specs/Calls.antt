@@ -19,8 +19,8 @@ use lib.ListN.{take}
 use Rattle.lent.specs.Maps.{tokensIn, mapOf}
 use Rattle.instant.specs.InstantCall.{Lent}
 use Rattle.parts.specs.Instants.{inputLists}
-use Rattle.answer.specs.Answer.{numberIn, valueIn, statusIn}
 use Rattle.run.specs.RunCall.{Lent as RunLent}
+use Rattle.answer.specs.Answer.{numberIn, valueIn, statusIn}
 use Rattle.score.specs.ScoreInstant.{ScoreInstant}
 use Rattle.score.specs.ScoreRun.{ScoreRun}
 

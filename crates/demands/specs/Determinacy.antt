@@ -17,7 +17,7 @@ use mathlib.Core.Path.{_≡_}
 use mathlib.Core.List.{List, [], _∷_, _++_, map, List·Memᴰ}
 use Prim.Native.Nat.{ℕ, _*_, _≤_}
 use lib.ListN.{length, take, drop}
-use Rattle.tcc.specs.Sets.{Same}
+use Rattle.laws.specs.Sets.{Same}
 use Rattle.tcc.specs.Score.{Score}
 use Rattle.tcc.specs.Store.{Closes}
 use Rattle.tcc.specs.Order.{Item, End, aborted, left, Order, Finished, awakeNext, start}
@@ -29,11 +29,11 @@ use Rattle.format.specs.Decode.{decode}
 use Rattle.bits.specs.Bits.{bytesOf}
 use Rattle.lent.specs.Maps.{tokensIn}
 use Rattle.lent.specs.States.{agentsIn, stateOf}
+use Rattle.instant.specs.InstantCall.{Lent}
 use Rattle.parts.specs.Instants.{inputLists}
 use Rattle.journal.specs.History.{instantWords}
-use Rattle.instant.specs.InstantCall.{Lent}
-use Rattle.answer.specs.Answer.{numberIn}
 use Rattle.run.specs.RunCall.{Lent as RunLent}
+use Rattle.answer.specs.Answer.{numberIn}
 use Rattle.demands.specs.Calls.{Call, instant, run, InTurn, Answered, written, Plays, Answers}
 
 abbrev pub Running : List ℕ → Type 0

@@ -18,8 +18,8 @@ use Rattle.lent.specs.States.{asBytes}
 use Rattle.lent.specs.Lengths.{scratchBytes}
 use Rattle.parts.specs.Instants.{inputLists}
 use Rattle.journal.specs.History.{history, IsHistory}
-use Rattle.answer.specs.Answer.{numberIn, valueIn}
 use Rattle.run.specs.RunCall.{Lent}
+use Rattle.answer.specs.Answer.{numberIn, valueIn}
 use Rattle.score.specs.ScoreRun.{ScoreRun}
 use Rattle.score.specs.ScoreJournalCheck.{ScoreJournalCheck}
 use Rattle.demands.specs.Calls.{written}

@@ -8,7 +8,7 @@ use mathlib.Core.Path.{_≡_}
 use mathlib.Core.Bool.{cond}
 use mathlib.Core.List.{List, [], List·Memᴰ}
 use Prim.Native.Nat.{ℕ}
-use Rattle.tcc.specs.Sets.{has}
+use Rattle.laws.specs.Sets.{has}
 use Rattle.tcc.specs.Score.{Score}
 use Rattle.tcc.specs.Store.{Closes}
 use Rattle.tcc.specs.Order.{Item, End, aborted, left, Order, Finished, awakeNext, start}

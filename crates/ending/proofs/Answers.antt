@@ -15,14 +15,15 @@ use Prim.Native.Nat.{ℕ, suc, _+_, _<_, _≤_}
 use native.Mathlib.Decide.{ℕ-discrete}
 use native.Mathlib.Omega.{arith}
 use lib.ListN.{length, getD, set, replicate, length-append, length-set, length-replicate, List·getD-eq-default}
-use Rattle.tcc.specs.Sets.{below, keep, any, has}
+use Rattle.laws.specs.Sets.{below, keep, any, has}
+use Rattle.laws.proofs.Booleans.{true-is-false}
+use Rattle.laws.proofs.Sets.{any-some, some-any, keep-append}
 use Rattle.tcc.specs.Score.{Score, agentAt}
 use Rattle.tcc.specs.Instant.{isAbort, reducible, leaves, reducedOf, leftAwake}
 use Rattle.tcc.specs.declared.Agent.the-variants.{Skip}
-use Rattle.tcc.proofs.Sets.{true-is-false, any-some, some-any}
 use Rattle.tcc.proofs.FixedPoint.{awake-member, member-awake}
 use Rattle.store.specs.Flags.{setOf, flagsOf}
-use Rattle.store.proofs.Flags.{flag-member, member-flag, keep-append, set-kept, set-here, set-cases, setOf-none, flags-settled}
+use Rattle.store.proofs.Flags.{flag-member, member-flag, set-kept, set-here, set-cases, setOf-none, flags-settled}
 use Rattle.store.proofs.Known.{flag-has}
 
 counted : (f : ℕ → Bool) (k : ℕ) (b : Bool) → f k ≡ b → length (keep f (below (k + 1))) ≡ cond b 1 0 + length (keep f (below k))

@@ -5,7 +5,7 @@ use mathlib.Core.Bool.{false}
 use mathlib.Core.List.{List}
 use Prim.Native.Nat.{ℕ}
 use lib.ListN.{length}
-use Rattle.tcc.specs.Sets.{any}
+use Rattle.laws.specs.Sets.{any}
 use Rattle.tcc.specs.Score.{Score, agentAt}
 use Rattle.tcc.specs.Instant.{isAbort, reducedOf, leftAwake}
 use Rattle.store.specs.Flags.{flagsOf}

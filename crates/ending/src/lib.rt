@@ -1,8 +1,8 @@
 ghost use mathlib.Core.Path.{_≡_};
 ghost use Rattle.format.specs.Decode.{sizes, decode};
+ghost use Rattle.format.specs.Playable.{Playable};
 ghost use Rattle.store.specs.Flags.{setOf};
 ghost use Rattle.ending.specs.Ended.{Ended};
-ghost use Rattle.format.specs.Playable.{Playable};
 use format::Sizes;
 use store::Agents;
 use store::Tokens;

@@ -8,11 +8,12 @@ use mathlib.Core.Bool.{Bool, true, false, cond}
 use mathlib.Core.List.{List, [], List·Memᴰ}
 use Prim.Native.Nat.{ℕ}
 use lib.ListN.{length, getD, replicate, length-replicate}
-use Rattle.tcc.specs.Sets.{Same, any}
+use Rattle.laws.specs.Sets.{Same, any}
+use Rattle.laws.proofs.Booleans.{true-is-false}
+use Rattle.laws.proofs.Sets.{any-some, some-any}
 use Rattle.tcc.specs.Score.{Score, agentAt}
 use Rattle.tcc.specs.Instant.{isAbort, reducedOf, leftAwake, instant}
 use Rattle.tcc.specs.FixedPoint.{Settled}
-use Rattle.tcc.proofs.Sets.{true-is-false, any-some, some-any}
 use Rattle.tcc.proofs.FixedPoint.{is-abort, aborts, settles}
 use Rattle.store.specs.Flags.{setOf, flagsOf}
 use Rattle.store.proofs.Flags.{flag-member, member-flag, setOf-none, flagsOf-length, flagsOf-member, member-flagsOf, flags-settled}

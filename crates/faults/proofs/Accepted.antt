@@ -4,34 +4,36 @@
 --     tokens-known, parts-lower, procedures-known, roots-known, ports-known, ports-ordered, rules-known
 --                           so the decoded score refers to nothing that it does not have
 use mathlib.Core.Path.{_≡_, refl, sym, subst, subst⁻¹, _∙_}
-use mathlib.Core.Bool.{Bool, true, false, cond, not, _||_, true≢false}
+use mathlib.Core.Bool.{Bool, true, false, cond, not, _||_}
 use mathlib.Core.List.{List, [], _∷_, List·Memᴰ, List·Memᴰ·head, List·Memᴰ·tail}
 use Prim.Native.Nat.{ℕ, zero, suc, _+_, _-_, _%_, _<_, _≤_}
 use native.Mathlib.Decide.{decLt}
 use native.Mathlib.Nat.{not-suc-le-zero, le-of-suc-le-suc, add-zero, add-suc, suc-add}
 use native.Mathlib.Omega.{arith}
-use borrow.Author.Tests.{le-leb, lt-ltb, le-ltb, ltb-false, leb-false, eqb-true, eqb-false, not-false}
+use borrow.Author.Tests.{lt-ltb, le-ltb, ltb-false, leb-false, eqb-true, eqb-false, not-false}
 use lib.Dec.{eqb, leb, ltb}
 use lib.ListN.{length, getD, drop, length-drop, List·getD-eq-default}
 use lib.Seq.{getD-drop}
-use Rattle.tcc.specs.Sets.{any}
+use Rattle.laws.specs.Sets.{any}
+use Rattle.laws.proofs.Booleans.{neither}
+use Rattle.laws.proofs.Sets.{none-above}
 use Rattle.tcc.specs.Score.{agentAt, rootOf, tokensOf, partsOf, proceduresOf}
 use Rattle.tcc.specs.declared.Agent.{Agent}
 use Rattle.tcc.specs.declared.Agent.the-variants.{Skip}
-use Rattle.tcc.proofs.Sets.{some-any}
 use Rattle.words.specs.Word.{field, words, wordAt}
 use Rattle.format.specs.declared.Sizes.{Sizes}
 use Rattle.format.specs.declared.Decoded.{Decoded}
 use Rattle.format.specs.declared.Decoded.the-variants.{Whole, Malformed}
-use Rattle.verdicts.specs.declared.Verdict.{Verdict}
-use Rattle.verdicts.specs.declared.Verdict.the-variants.{Accepted, Length, Count, Form, Token, Reference}
 use Rattle.format.specs.Format.{isWord, agentIn, decodeAgent}
 use Rattle.format.specs.Decode.{sizes, decode}
-use Rattle.verdicts.specs.Verdicts.{numberOf}
-use Rattle.wordfaults.specs.WordFaults.{atWord, portsVerdict, rootVerdict, ruleVerdict, agentVerdict}
-use Rattle.faults.specs.Faults.{lengthVerdict, countVerdict, wordVerdict, firstFault, Faultless}
 use Rattle.format.proofs.Decode.{decode-agent, decode-root, decode-agents}
+use Rattle.verdicts.specs.declared.Verdict.{Verdict}
+use Rattle.verdicts.specs.declared.Verdict.the-variants.{Accepted, Length, Count, Form, Token, Reference}
+use Rattle.verdicts.specs.Verdicts.{numberOf}
 use Rattle.verdicts.proofs.Verdicts.{refused, both-accepted}
+use Rattle.wordfaults.specs.WordFaults.{atWord, portsVerdict, rootVerdict, ruleVerdict, agentVerdict}
+use Rattle.faults.specs.Faults.{lengthVerdict, countVerdict, wordVerdict, firstFault}
+use Rattle.faults.specs.Faultless.{Faultless}
 
 listed-accepted : (h : Sizes) (k : ℕ) (ws : List ℕ) → firstFault h k ws ≡ Accepted → (j : ℕ) → j < length ws → wordVerdict h (k + j) (getD ws j 0) ≡ Accepted
 unfolding firstFault
@@ -54,15 +56,6 @@ record Fine (h : Sizes) (formed : Bool) (tokens : List ℕ) (astray : Bool) : Ty
   known : (t : ℕ) → List·Memᴰ t tokens → t < h .tokens
   not-astray : astray ≡ false
 
-pub none-above : (n : ℕ) (l : List ℕ) → any (λ t. leb n t) l ≡ false → (t : ℕ) → List·Memᴰ t l → t < n
-none-above n l e t m = go (decLt t n)
-  where
-    go : Dec (t < n) → t < n
-    go (yes h) = h
-    go (no h) =
-        let le : n ≤ t = omega arith in
-        absurd (true≢false (sym (some-any (λ x. leb n x) m (le-leb n t le)) ∙ e))
-
 passed : (k : ℕ) (formed unknown astray : Bool) → cond formed (cond unknown (Token k) (cond astray (Reference k) Accepted)) (Form k) ≡ Accepted →
     (formed ≡ true) × (unknown ≡ false) × (astray ≡ false)
 passed k true true a e = refused (Token k) (λ z. omega arith) e
@@ -74,10 +67,6 @@ fine : (h : Sizes) (k : ℕ) (formed : Bool) (tokens : List ℕ) (astray : Bool)
 fine h k formed tokens astray e =
     let p = passed k formed (any (λ t. leb (h .tokens) t) tokens) astray e in
     record { is-formed = p .0; known = none-above (h .tokens) tokens (p .1); not-astray = p .2 }
-
-pub neither : (a b : Bool) → (a || b) ≡ false → (a ≡ false) × (b ≡ false)
-neither true b e = (e, absurd (true≢false e))
-neither false b e = (refl, e)
 
 -- of an agent
 record Lower (h : Sizes) (i : ℕ) (a : Agent) : Type 0 where

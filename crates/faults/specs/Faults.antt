@@ -2,17 +2,12 @@
 --     lengthVerdict, headVerdict, countVerdict    rows 1, 2 and 3
 --     wordVerdict          word k, judged by its place
 --     firstFault           the lowest word that meets 4, 5 or 6, from word k on
---     Faultless            all words are there, and none meets 4, 5 or 6
-use mathlib.Core.Path.{_≡_}
 use mathlib.Core.Bool.{cond, not, _||_}
 use mathlib.Core.List.{List, [], _∷_}
-use Prim.Native.Nat.{ℕ, suc, _+_, _-_, _%_, _≤_}
+use Prim.Native.Nat.{ℕ, suc, _+_, _-_, _%_}
 use lib.Dec.{eqb, ltb}
-use lib.ListN.{length, drop}
-use Rattle.words.specs.Word.{words}
 use Rattle.format.specs.declared.Sizes.{Sizes}
 use Rattle.format.specs.Format.{isWord, decodeAgent}
-use Rattle.format.specs.Decode.{sizes}
 use Rattle.verdicts.specs.declared.Verdict.{Verdict}
 use Rattle.verdicts.specs.declared.Verdict.the-variants.{Accepted, Length, Head, Count}
 use Rattle.verdicts.specs.Verdicts.{orElse}
@@ -37,8 +32,3 @@ wordVerdict h k w =
 unfoldable pub firstFault : Sizes → ℕ → List ℕ → Verdict
 firstFault h k [] = Accepted
 firstFault h k (w ∷ ws) = orElse (wordVerdict h k w) (firstFault h (suc k) ws)
-
--- what the check knows once it tries 7: all words are there, and each is as its place asks
-pub record Faultless (s : List ℕ) : Type 0 where
-  pub enough : 2 + sizes s .agents + sizes s .procedures ≤ length (words s)
-  pub faultless : firstFault (sizes s) 1 (drop 1 (words s)) ≡ Accepted

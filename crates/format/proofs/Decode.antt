@@ -6,18 +6,21 @@
 --     decode-roots       and P procedures
 --     decode-tokens, decode-lowest, decode-highest     T, and the ports of word 1
 --     decode-rules       the words past the procedures are the rules
+--     rulesFrom          the first word that is a rule
+--     rule-member        the rule of each word from there on is one of the score's
 --     on-rules           what holds of the rule of each of those words holds of each rule
 --     sizes-few          no more tokens, agents or procedures than a head can say
-use mathlib.Core.Path.{_≡_, refl, sym, ap, subst⁻¹, _∙_}
-use mathlib.Core.List.{List, [], _∷_, map}
-use Prim.Native.Nat.{ℕ, zero, suc, _+_, _-_, _<_, _≤_}
+use mathlib.Core.Path.{_≡_, refl, sym, ap, subst, subst⁻¹, _∙_}
+use mathlib.Core.List.{List, map, List·Memᴰ}
+use Prim.Native.Nat.{ℕ, _+_, _-_, _<_, _≤_}
 use native.Mathlib.Omega.{arith}
 use lib.ListN.{length, getD, take, drop, length-map, length-take, length-drop, List·getD-map}
 use lib.Seq.{getD-take, getD-drop}
+use Rattle.laws.proofs.Lists.{entry-member, on-entries}
+use Rattle.laws.proofs.Sets.{Within, on-map, map-member}
 use Rattle.tcc.specs.Closure.{Rule}
 use Rattle.tcc.specs.Score.{agentAt, rootOf}
 use Rattle.tcc.specs.declared.Agent.the-variants.{Skip}
-use Rattle.tcc.proofs.Sets.{Within, on-cons, on-map}
 use Rattle.words.specs.Word.{field, words, wordAt}
 use Rattle.words.proofs.Field.{field-below}
 use Rattle.format.specs.Format.{agentOf, ruleOf, decodeAgent}
@@ -84,10 +87,17 @@ decode-rules s =
     length-map (drop (2 + sizes s .agents + sizes s .procedures) (words s)) ruleOf
     ∙ length-drop (2 + sizes s .agents + sizes s .procedures) (words s)
 
--- what holds of each entry holds of each member
-on-entries : (P : ℕ → Type 0) (l : List ℕ) → ((j : ℕ) → j < length l → P (getD l j 0)) → Within P l
-on-entries P [] f x m = elim m [ ]
-on-entries P (y ∷ l) f x m = on-cons (f zero (omega arith)) (on-entries P l (λ j lt. f (suc j) (omega arith))) x m
+abbrev pub rulesFrom : List ℕ → ℕ
+rulesFrom s = 2 + sizes s .agents + sizes s .procedures
+
+pub rule-member : (s : List ℕ) (k : ℕ) → rulesFrom s ≤ k → k < length (words s) → List·Memᴰ (ruleOf (wordAt s k)) (decode s .rules)
+unfolding decode
+rule-member s k from within =
+    let start = rulesFrom s in
+    let j = k - start in
+    let e : start + j ≡ k = omega arith in
+    let m : List·Memᴰ (getD (drop start (words s)) j 0) (drop start (words s)) = entry-member (drop start (words s)) j (omega (arith, length-drop start (words s))) in
+    map-member ruleOf (subst (λ w. List·Memᴰ w (drop start (words s))) (rw e at (getD-drop start (words s) j 0)) m)
 
 pub on-rules : (s : List ℕ) (P : Rule ℕ → Type 0) →
     ((k : ℕ) → 2 + sizes s .agents + sizes s .procedures ≤ k → k < length (words s) → P (ruleOf (wordAt s k))) → Within P (decode s .rules)

@@ -14,10 +14,10 @@ use native.Mathlib.Omega.{arith}
 use native.Mathlib.Decide.{decLt}
 use lib.Dec.{eqb, leb}
 use lib.ListN.{length, getD}
-use Rattle.tcc.specs.Sets.{any}
+use Rattle.laws.specs.Sets.{any}
+use Rattle.laws.proofs.Booleans.{true-is-false}
 use Rattle.tcc.specs.Score.{Score}
 use Rattle.tcc.specs.Instant.{State, Answer, output, answer, after}
-use Rattle.tcc.proofs.Sets.{true-is-false}
 use Rattle.format.specs.Decode.{sizes, decode}
 use Rattle.format.specs.Playable.{Playable}
 use Rattle.format.proofs.Decode.{playable-agents, decode-tokens}

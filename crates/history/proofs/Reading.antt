@@ -4,21 +4,22 @@
 --     Next             the part at a position: an instant's words, the tokens that it tells, and what follows it
 --     reading-next     while something is left, there is one
 --     reading-end      nothing is left
-use mathlib.Core.Path.{_≡_, refl, sym, ap, ap₂, subst, _∙_}
+use mathlib.Core.Path.{_≡_, refl, sym, ap, subst, _∙_}
 use mathlib.Core.Bool.{Bool, true}
 use mathlib.Core.List.{List, [], _∷_, map, List·Memᴰ, List·Memᴰ·head, List·Memᴰ·tail}
 use mathlib.Core.Logic.{_⊎_}
-use Prim.Native.Nat.{ℕ, _+_, _*_, _-_, _%_, _<_, _≤_}
+use Prim.Native.Nat.{ℕ, _+_, _*_, _%_, _<_, _≤_}
 use native.Mathlib.Omega.{arith}
-use lib.ListN.{length, drop, length-drop, drop-of-length-le}
+use lib.ListN.{length, drop, length-drop}
 use lib.Seq.{drop-drop}
 use Rattle.words.specs.Word.{words, wordAt}
 use Rattle.form.specs.declared.Form.the-variants.{Good}
 use Rattle.form.specs.Form.{isInstant, formOf}
-use Rattle.parts.specs.Instants.{instantsIn, inputsIn, inputLists, span, partFrom, partAt}
+use Rattle.parts.specs.Instants.{instantsIn, inputsIn, inputLists}
+use Rattle.parts.specs.Parts.{span, partFrom, partAt}
+use Rattle.parts.proofs.Parts.{instants-step, part-starts, part-length, part-on, span-fits, span-positive, starts-some, good-starts, good-four, instants-end}
 use Rattle.journal.specs.History.{Rising}
 use Rattle.journal.proofs.Forms.{good-inputs}
-use Rattle.parts.proofs.Parts.{instants-step, part-starts, part-length, part-on, rest-length, span-fits, span-positive, starts-some, good-starts, good-four, instants-end}
 
 pub record Reading (tokens : ℕ) (bytes : List ℕ) (at : ℕ) : Type 0 where
   pub aligned : at % 4 ≡ 0

@@ -3,21 +3,20 @@
 --     Replies          so is the reply of an exit, of any type of exit
 --     by-score, by-lengths, by-state     through these stages
 --     by-form          and through that of the form, where n is the whole words of the list or journal
---     either           what holds of both sides of a test
 use mathlib.Core.Path.{_≡_, refl, subst⁻¹}
-use mathlib.Core.Bool.{Bool, true, false, cond, not}
+use mathlib.Core.Bool.{Bool, cond, not}
 use mathlib.Core.List.{List}
 use Prim.Native.Nat.{ℕ, _/_, _≤_}
 use native.Mathlib.Omega.{arith}
 use lib.Dec.{eqb}
 use lib.ListN.{length}
+use Rattle.laws.proofs.Booleans.{either}
+use Rattle.words.proofs.Words.{words-length}
 use Rattle.verdicts.specs.Verdicts.{numberOf}
 use Rattle.scorefile.specs.Check.{verdict}
-use Rattle.words.proofs.Words.{words-length}
 use Rattle.form.specs.declared.Form.{Form}
 use Rattle.form.specs.declared.Form.the-variants.{Good, Bytes as NotWhole, Word as Wrong}
 use Rattle.form.specs.Form.{formOf}
-use Rattle.parts.specs.Instants.{instantsIn, inputsIn, inputLists}
 use Rattle.journal.proofs.Counts.{against-few}
 use Rattle.history.specs.declared.Reply.{Reply}
 use Rattle.history.specs.declared.Reply.the-variants.{Score as Turned, Lengths, State, Unlawful, Bytes, Word, Differs, Full, Accepted}
@@ -33,10 +32,6 @@ pub data Proper (score : List ℕ) (n : ℕ) : Reply → Type 0 where
   differs : (k : ℕ) → k ≤ n → Proper score n (Differs k)
   full : (k : ℕ) → k ≤ n → Proper score n (Full k)
   accepted : (k : ℕ) → k ≤ n → Proper score n (Accepted k)
-
-pub either : {E : Type 0} (P : E → Type 0) (b : Bool) {x y : E} → P x → P y → P (cond b x y)
-either P true p q = p
-either P false p q = q
 
 module _ {E : Type 0} (reply : E → Reply) (score : List ℕ) (n : ℕ) where
   pub record Replies (e : E) : Type 0 where

@@ -12,9 +12,9 @@ use mathlib.Core.List.{List}
 use Prim.Native.Nat.{ℕ, _≤_}
 use native.Mathlib.Omega.{arith}
 use lib.ListN.{length}
+use Rattle.laws.proofs.Sets.{same-refl}
 use Rattle.tcc.specs.Lawful.{Lawful}
-use Rattle.tcc.specs.Instant.{Answer, State, running, aborted, answer, after}
-use Rattle.tcc.proofs.Sets.{same-refl}
+use Rattle.tcc.specs.Instant.{State, running, aborted, answer, after}
 use Rattle.tcc.proofs.SameAnswer.{SameAnswer}
 use Rattle.format.specs.Decode.{sizes, decode}
 use Rattle.format.proofs.Decode.{sizes-few}

@@ -9,14 +9,14 @@ use mathlib.Core.List.{List, [], _∷_, List·Memᴰ, List·Memᴰ·head, List·
 use mathlib.Core.Logic.{⊎-elim}
 use Prim.Native.Nat.{ℕ, _<_, _≤_}
 use native.Mathlib.Omega.{arith}
-use lib.ListN.{length, set, replicate, length-set, length-replicate}
+use lib.ListN.{set, replicate, length-set, length-replicate}
+use Rattle.laws.proofs.Sets.{on-cons}
 use Rattle.tcc.specs.Score.{rootOf}
 use Rattle.tcc.specs.Instant.{running, startState}
-use Rattle.tcc.proofs.Sets.{on-cons}
 use Rattle.format.specs.Decode.{sizes, decode}
+use Rattle.format.specs.Playable.{Playable}
 use Rattle.format.proofs.Decode.{playable-agents, sizes-few}
 use Rattle.store.specs.Flags.{setOf, flagsOf}
-use Rattle.format.specs.Playable.{Playable}
 use Rattle.store.proofs.Flags.{set-here, set-cases, setOf-none, flags-settled}
 use Rattle.lent.specs.States.{stateOf, asBytes, LawfulState}
 use Rattle.lent.proofs.Round.{state-round, asBytes-same, lawful-bytes, faultless-lawful}

@@ -4,23 +4,23 @@
 --     stands-lawful      and it is a lawful state
 --     output-so          what goes to the ports, by the flags of its store
 --     never-unlawful     number 11 is not met
-use mathlib.Core.Path.{_≡_, refl, sym, ap, ap₂, subst, subst⁻¹, _∙_}
+use mathlib.Core.Path.{_≡_, refl, sym, ap, _∙_}
 use mathlib.Core.Bool.{Bool, true, false, cond, not}
-use mathlib.Core.List.{List, [], _∷_, List·Memᴰ}
-use Prim.Native.Nat.{ℕ, _<_, _≤_}
+use mathlib.Core.List.{List}
+use Prim.Native.Nat.{ℕ, _≤_}
 use native.Mathlib.Omega.{arith}
 use lib.Dec.{eqb, leb}
-use lib.ListN.{length, getD}
-use Rattle.tcc.specs.Sets.{Same, any}
+use lib.ListN.{length}
+use Rattle.laws.specs.Sets.{any}
 use Rattle.tcc.specs.Score.{Score}
 use Rattle.tcc.specs.Lawful.{Lawful}
 use Rattle.tcc.specs.Instant.{State, running, aborted, Answer, output, after}
 use Rattle.words.specs.Word.{wordAt}
 use Rattle.store.specs.Flags.{setOf, flagsOf}
 use Rattle.store.proofs.Flags.{flagsOf-same}
+use Rattle.bits.proofs.Filled.{from-none}
 use Rattle.lent.specs.States.{abortedWord, agentsIn, stateFault, stateOf, asBytes, LawfulState, SameState}
 use Rattle.lent.proofs.Agents.{agents-set}
-use Rattle.bits.proofs.Filled.{from-none}
 use Rattle.lent.proofs.Round.{state-round, faultless-lawful}
 use Rattle.standing.specs.Standing.{stateIn}
 use Rattle.standing.proofs.Inside.{Inside, flags-back, flags-known, next-lawful}

@@ -1,6 +1,5 @@
 -- Numbers 12 and 13: a list or journal is turned down by its form before its first instant.
 --     byForm         how a call whose exits are of any type leaves, or goes on
-use Prim.Native.Nat.{ℕ}
 use Rattle.form.specs.declared.Form.{Form}
 use Rattle.form.specs.declared.Form.the-variants.{Good, Bytes, Word}
 use Rattle.history.specs.declared.Reply.{Reply}

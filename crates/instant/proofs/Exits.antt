@@ -6,31 +6,29 @@ use mathlib.Core.Path.{_≡_, ap, _∙_}
 use mathlib.Core.Bool.{true, false, cond, not}
 use mathlib.Core.List.{List, _∷_}
 use Prim.Native.Nat.{ℕ, _≤_}
-use borrow.Author.Tests.{eqb-true, not-false}
 use lib.Dec.{eqb}
 use lib.ListN.{length}
+use Rattle.laws.proofs.Booleans.{cond-true, cond-false, neither}
 use Rattle.tcc.specs.Score.{Score}
 use Rattle.tcc.specs.Instant.{Answer, output, answer, after}
-use Rattle.tcc.proofs.Tests.{cond-true, cond-false}
 use Rattle.format.specs.Decode.{sizes, decode}
-use Rattle.scorefile.specs.Check.{verdict}
-use Rattle.lent.specs.Lengths.{stateBytes, mapBytes, scratchBytes, noScratch}
-use Rattle.lent.specs.Maps.{tokensIn, mapOf}
-use Rattle.lent.specs.States.{stateFault, stateOf, asBytes, runningWord, abortedWord, agentWords}
 use Rattle.verdicts.specs.declared.Verdict.{Verdict}
 use Rattle.verdicts.specs.Verdicts.{numberOf}
-use Rattle.faults.proofs.Accepted.{neither}
-use Rattle.lent.proofs.Lengths.{right}
-use Rattle.instant.specs.declared.Reply.the-variants.{Score as Turned, Lengths, State, Input, Next, Settled}
-use Rattle.instant.specs.InstantCall.{Lent, Exit, lengthFault, tokenFault, kept, answered, exit, lent, cleared, played}
+use Rattle.scorefile.specs.Check.{verdict}
 use Rattle.scorefile.proofs.Stages.{passed}
 use Rattle.scorefile.proofs.Stages as stages
 use Rattle.store.specs.Flags.{setOf}
 use Rattle.engine.specs.declared.Outcome.{Outcome}
 use Rattle.engine.specs.Outcome.{outcomeOf}
 use Rattle.bits.specs.Bits.{bytesOf}
-use Rattle.instant.specs.HandedOver.{HandedOver}
+use Rattle.lent.specs.Lengths.{stateBytes, mapBytes, scratchBytes, noScratch}
+use Rattle.lent.specs.Maps.{tokensIn, mapOf}
+use Rattle.lent.specs.States.{stateFault, stateOf, asBytes, runningWord, abortedWord, agentWords}
+use Rattle.lent.proofs.Lengths.{right}
 use Rattle.standing.proofs.Inside.{Inside}
+use Rattle.instant.specs.declared.Reply.the-variants.{Score as Turned, Lengths, State, Input, Next, Settled}
+use Rattle.instant.specs.InstantCall.{Lent, Exit, lengthFault, tokenFault, kept, answered, exit, lent, cleared, played}
+use Rattle.instant.specs.HandedOver.{HandedOver}
 use Rattle.instant.proofs.Written.{state-written, store-written, output-written}
 
 module _ (score given : List ℕ) (l : Lent) where

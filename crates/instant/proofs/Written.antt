@@ -2,16 +2,16 @@
 --     state-written, store-written, output-written     the buffers of the answer
 use mathlib.Core.Path.{_≡_, refl, ap, _∙_}
 use mathlib.Core.Bool.{Bool, true, false, cond}
-use mathlib.Core.List.{List, [], _∷_, map}
-use Prim.Native.Nat.{ℕ, suc, _+_, _-_, _≤_}
+use mathlib.Core.List.{[], _∷_, map}
+use Prim.Native.Nat.{suc, _+_, _-_, _≤_}
 use native.Mathlib.Omega.{arith}
 use borrow.Author.Tests.{eqb-true}
 use lib.Dec.{eqb}
 use lib.ListN.{length}
-use Rattle.tcc.specs.Sets.{Same, has, below}
+use Rattle.laws.specs.Sets.{Same, has, below}
+use Rattle.laws.proofs.Sets.{keep-agrees, has-same}
 use Rattle.tcc.specs.Score.{Score}
 use Rattle.tcc.specs.Instant.{Answer, output, running, aborted, after}
-use Rattle.tcc.proofs.Sets.{keep-agrees, has-same}
 use Rattle.store.specs.Flags.{setOf, flagsOf}
 use Rattle.bits.specs.Bits.{bytesOf}
 use Rattle.lent.specs.Maps.{mapOf}

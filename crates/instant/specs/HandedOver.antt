@@ -3,7 +3,7 @@
 --     Known          no agent and no token of an outcome is from past the score's
 --     HandedOver     what the buffers hold: the state, the store and what goes to the ports, by the outcome's flags
 use mathlib.Core.Path.{_≡_}
-use mathlib.Core.Bool.{Bool, false, cond}
+use mathlib.Core.Bool.{false, cond}
 use mathlib.Core.List.{List, _∷_}
 use Prim.Native.Nat.{ℕ, _≤_}
 use lib.Dec.{eqb}
@@ -13,8 +13,8 @@ use Rattle.tcc.specs.Instant.{output}
 use Rattle.format.specs.declared.Sizes.{Sizes}
 use Rattle.store.specs.Flags.{setOf}
 use Rattle.engine.specs.declared.Outcome.{Outcome}
-use Rattle.lent.specs.Lengths.{stateBytes, mapBytes}
 use Rattle.bits.specs.Bits.{bytesOf}
+use Rattle.lent.specs.Lengths.{stateBytes, mapBytes}
 use Rattle.lent.specs.Maps.{mapOf}
 use Rattle.lent.specs.States.{runningWord, abortedWord, agentWords}
 

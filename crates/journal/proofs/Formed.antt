@@ -13,7 +13,7 @@ use native.Mathlib.Omega.{arith}
 use borrow.Author.Tests.{eq-eqb, ne-eqb, lt-ltb}
 use lib.Dec.{eqb}
 use lib.ListN.{length, getD}
-use Rattle.tcc.proofs.Sets.{Within, on-cons, on-append, on-map}
+use Rattle.laws.proofs.Sets.{Within, on-cons, on-append, on-map}
 use Rattle.words.specs.Word.{words, field, kind}
 use Rattle.format.specs.Format.{isWord}
 use Rattle.bits.specs.Bits.{bytesOf}

@@ -22,8 +22,9 @@ use borrow.Author.Tests.{eqb-true, eq-eqb, ne-eqb, ltb-true}
 use lib.Dec.{eqb, ltb}
 use lib.ListN.{length, getD}
 use lib.Pow.{shr-mod, shr-shr, split}
-use Rattle.tcc.specs.Sets.{keep}
-use Rattle.tcc.proofs.Sets.{Within, true-is-false, and-both, on-cons, on-map, on-keep}
+use Rattle.laws.specs.Sets.{keep}
+use Rattle.laws.proofs.Booleans.{true-is-false, and-both}
+use Rattle.laws.proofs.Sets.{Within, on-cons, on-map, on-keep}
 use Rattle.words.specs.Word.{joined, words, field, kind}
 use Rattle.format.specs.Format.{clear, isWord}
 use Rattle.bits.specs.Bits.{bytesOf}

@@ -12,11 +12,12 @@ use mathlib.Core.Bool.{Bool, true, false, cond}
 use mathlib.Core.List.{List, [], _∷_, _++_, flatten, List·Memᴰ, List·Memᴰ·head, List·Memᴰ·tail}
 use Prim.Native.Nat.{ℕ, _<_}
 use native.Mathlib.Omega.{arith}
-use Rattle.tcc.specs.Sets.{any, has}
+use Rattle.laws.specs.Sets.{any, has}
+use Rattle.laws.proofs.Booleans.{true-is-false}
+use Rattle.laws.proofs.Sets.{Within, on-cons}
 use Rattle.tcc.specs.Score.{Score, agentAt}
 use Rattle.tcc.specs.Lawful.{Lawful}
 use Rattle.tcc.specs.Instant.{Answer, abortedAnswer, quietAnswer, liveIn, heldIn, isAbort, reached, instant, State, running, aborted, output, answer, after}
-use Rattle.tcc.proofs.Sets.{Within, true-is-false, on-cons}
 use Rattle.tcc.proofs.SameAnswer.{SameAnswer}
 use Rattle.words.specs.Word.{words}
 use Rattle.bits.specs.Bits.{bytesOf}

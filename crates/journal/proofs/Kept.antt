@@ -14,10 +14,11 @@ use native.Mathlib.Numerals.{add-one}
 use native.Mathlib.Omega.{arith}
 use mir.Val.{boolByte}
 use lib.ListN.{length, getD, length-append}
-use Rattle.tcc.specs.Sets.{below, keep}
-use Rattle.tcc.proofs.Sets.{true-is-false, on-keep, keep-kept, lt-below}
+use Rattle.laws.specs.Sets.{below, keep}
+use Rattle.laws.proofs.Booleans.{true-is-false}
+use Rattle.laws.proofs.Sets.{on-keep, keep-kept, lt-below, keep-append}
 use Rattle.store.specs.Flags.{setOf}
-use Rattle.store.proofs.Flags.{keep-append, flag-member, member-flag}
+use Rattle.store.proofs.Flags.{flag-member, member-flag}
 use Rattle.journal.proofs.Rising.{rising-keep, rising-unique, flags-rising, below-rising}
 
 unfoldable pub kept : List Bool → ℕ → List ℕ

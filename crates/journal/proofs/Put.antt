@@ -13,8 +13,9 @@ use Prim.Native.Nat.{ℕ, _+_, _*_, _^_, _≤_}
 use native.Mathlib.Omega.{arith}
 use lib.ListN.{length, take, drop, length-append, length-map, getD, take-append-drop}
 use lib.Seq.{take-at, drop-append-add, drop-drop, length-take-le}
+use Rattle.laws.proofs.Lists.{map-snoc}
 use Rattle.bits.specs.Bits.{bytesOf}
-use Rattle.bits.proofs.Bytes.{bytesOf-length, bytesOf-append, map-snoc}
+use Rattle.bits.proofs.Bytes.{bytesOf-length, bytesOf-append}
 use Rattle.journal.specs.History.{instantWord, inputWord, outputWord, instantWords}
 use Rattle.journal.proofs.Kept.{kept, kept-step}
 

@@ -17,13 +17,14 @@ use native.Mathlib.Omega.{arith}
 use borrow.Author.Tests.{lt-ltb}
 use lib.Dec.{ltb}
 use lib.ListN.{length, getD}
-use Rattle.tcc.specs.Sets.{Same, below, keep, has}
+use Rattle.laws.specs.Sets.{Same, below, keep, has}
+use Rattle.laws.proofs.Booleans.{true-is-false}
+use Rattle.laws.proofs.Sets.{Within, on-cons, on-append, on-keep, keep-kept, keep-agrees, below-lt, has-same, same-trans}
 use Rattle.tcc.specs.Score.{Score}
 use Rattle.tcc.specs.Instant.{output}
-use Rattle.tcc.proofs.Sets.{Within, true-is-false, on-cons, on-append, on-keep, keep-kept, keep-agrees, below-lt, has-same, same-trans}
+use Rattle.words.specs.Map.{inMap}
 use Rattle.store.specs.Flags.{setOf, flagsOf}
 use Rattle.store.proofs.Flags.{member-flag, flagsOf-member, member-flagsOf}
-use Rattle.words.specs.Map.{inMap}
 use Rattle.lent.specs.Maps.{tokensIn, mapOf}
 use Rattle.lent.proofs.Round.{map-round}
 use Rattle.journal.specs.History.{Rising, none, one, more}

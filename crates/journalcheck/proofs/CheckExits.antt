@@ -6,7 +6,7 @@ use mathlib.Core.List.{List}
 use Prim.Native.Nat.{ℕ}
 use borrow.Author.Tests.{eq-eqb, ne-eqb}
 use lib.ListN.{length}
-use Rattle.tcc.proofs.Tests.{cond-true, cond-false}
+use Rattle.laws.proofs.Booleans.{cond-true, cond-false}
 use Rattle.format.specs.Decode.{sizes}
 use Rattle.verdicts.specs.declared.Verdict.{Verdict}
 use Rattle.verdicts.specs.Verdicts.{numberOf}

@@ -24,20 +24,21 @@ use Rattle.standing.specs.declared.Standing.{Standing}
 use Rattle.standing.specs.Standing.{stateIn}
 use Rattle.form.specs.declared.Form.the-variants.{Good}
 use Rattle.form.specs.Form.{formOf}
-use Rattle.parts.specs.Instants.{instantsIn, inputsIn, partAt}
+use Rattle.parts.specs.Instants.{instantsIn, inputsIn}
+use Rattle.parts.specs.Parts.{partAt}
+use Rattle.parts.proofs.Parts.{instants-end}
 use Rattle.journal.specs.History.{entry}
 use Rattle.journal.specs.Formed.{Formed}
 use Rattle.journal.proofs.Forms.{good-instants}
-use Rattle.parts.proofs.Parts.{instants-end}
 use Rattle.history.specs.AnswerIn.{answerIn}
 use Rattle.history.specs.declared.Reply.{Reply}
 use Rattle.history.specs.declared.Reply.the-variants.{Unlawful, Differs, Accepted}
+use Rattle.history.proofs.Reading.{Reading, reading-none, Next, reading-next}
+use Rattle.history.proofs.Starts.{start-lawful}
 use Rattle.journalcheck.specs.declared.Checked.{Checked}
 use Rattle.journalcheck.specs.Check.{same, checkFrom}
 use Rattle.journalcheck.specs.JournalCheckCall.{checked}
 use Rattle.journalcheck.specs.Held.{Held}
-use Rattle.history.proofs.Reading.{Reading, reading-none, Next, reading-next}
-use Rattle.history.proofs.Starts.{start-lawful}
 
 pub record Checking (score journal : List ℕ) (stands : Standing) (n at : ℕ) : Type 0 where
   pub state : List ℕ

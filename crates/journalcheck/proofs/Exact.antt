@@ -10,9 +10,10 @@ use native.Mathlib.Omega.{arith}
 use borrow.Author.Tests.{eqb-true, eq-eqb}
 use lib.Dec.{eqb}
 use lib.ListN.{length}
+use Rattle.laws.proofs.Booleans.{true-is-false, and-both, both-and}
+use Rattle.laws.proofs.Sets.{Within}
 use Rattle.tcc.specs.Lawful.{Lawful}
 use Rattle.tcc.specs.Instant.{State, answer, after}
-use Rattle.tcc.proofs.Sets.{Within, true-is-false, and-both, both-and}
 use Rattle.format.specs.Decode.{sizes, decode}
 use Rattle.lent.specs.States.{asBytes}
 use Rattle.parts.specs.Instants.{inputsIn}

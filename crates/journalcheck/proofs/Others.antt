@@ -13,11 +13,10 @@ use borrow.Author.Tests.{eqb-true, eq-eqb, not-false}
 use lib.Dec.{eqb}
 use lib.ListN.{length, getD}
 use lib.Seq.{ext-getD}
-use Rattle.tcc.proofs.Sets.{true-is-false}
+use Rattle.laws.proofs.Booleans.{true-is-false, neither}
 use Rattle.words.specs.Word.{field}
 use Rattle.store.specs.Flags.{setOf, flagsOf}
 use Rattle.store.proofs.Flags.{flags-settled}
-use Rattle.faults.proofs.Accepted.{neither}
 use Rattle.form.specs.Form.{statusOf}
 use Rattle.parts.specs.Instants.{tokensOf, inputsIn}
 use Rattle.journal.specs.History.{instantWords, Rising}

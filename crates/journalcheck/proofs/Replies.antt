@@ -1,12 +1,13 @@
 -- The replies of a journal check.
 --     check-proper     they are proper, where n is the whole words of the journal
-use mathlib.Core.Path.{_≡_, refl}
+use mathlib.Core.Path.{refl}
 use mathlib.Core.Bool.{true, not}
 use mathlib.Core.List.{List, [], _∷_}
 use Prim.Native.Nat.{ℕ, suc, _+_, _/_, _≤_}
 use native.Mathlib.Omega.{arith}
 use lib.Dec.{eqb}
 use lib.ListN.{length}
+use Rattle.laws.proofs.Booleans.{either}
 use Rattle.tcc.specs.Instant.{startState, after}
 use Rattle.words.specs.Word.{words}
 use Rattle.words.proofs.Words.{words-length}
@@ -18,7 +19,7 @@ use Rattle.journal.specs.History.{entry}
 use Rattle.journal.proofs.Counts.{instants-few}
 use Rattle.history.specs.declared.Reply.{Reply}
 use Rattle.history.specs.AnswerIn.{answerIn}
-use Rattle.history.proofs.Replies.{Proper, unlawful, differs, accepted, either, Replies, by-score, by-lengths, by-form}
+use Rattle.history.proofs.Replies.{Proper, unlawful, differs, accepted, Replies, by-score, by-lengths, by-form}
 use Rattle.journalcheck.specs.Check.{same, checkFrom}
 use Rattle.journalcheck.specs.JournalCheckCall.{Exit, left, exit}
 

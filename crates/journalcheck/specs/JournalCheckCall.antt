@@ -17,11 +17,9 @@ use Rattle.format.specs.Decode.{sizes, decode}
 use Rattle.verdicts.specs.Verdicts.{numberOf}
 use Rattle.scorefile.specs.Check.{verdict}
 use Rattle.lent.specs.Lengths.{scratchBytes, noScratch}
-use Rattle.form.specs.declared.Form.{Form}
-use Rattle.form.specs.declared.Form.the-variants.{Good, Bytes, Word}
+use Rattle.lent.specs.States.{asBytes}
 use Rattle.form.specs.Form.{formOf}
 use Rattle.parts.specs.Instants.{instantsIn}
-use Rattle.lent.specs.States.{asBytes}
 use Rattle.history.specs.declared.Reply.{Reply}
 use Rattle.history.specs.declared.Reply.the-variants.{Score as Turned, Lengths}
 use Rattle.history.specs.ByForm.{byForm}

@@ -17,10 +17,10 @@ ghost use Rattle.journal.specs.Formed.{Formed};
 ghost use Rattle.journalcheck.specs.Check.{same};
 ghost use Rattle.journalcheck.specs.Held.{Held};
 ghost use Rattle.journalcheck.specs.JournalCheckCall.{checked, JournalCheckCall};
+use form::Form;
 use format::Sizes;
 use history::Reply;
 use standing::Standing;
-use form::Form;
 
 // One instant of a journal, held against what the run writes.
 struct Checked {

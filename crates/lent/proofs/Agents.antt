@@ -16,15 +16,16 @@ use mathlib.Core.Logic.{by-cases}
 use native.Mathlib.Decide.{decLt}
 use native.Mathlib.Omega.{arith}
 use lib.Dec.{eqb, leb}
-use Rattle.tcc.specs.Sets.{below, any}
-use Rattle.tcc.proofs.Sets.{Within, on-keep, below-lt}
-use Rattle.store.specs.Flags.{setOf, flagsOf}
+use Rattle.laws.specs.Sets.{below, any}
+use Rattle.laws.proofs.Sets.{Within, on-keep, below-lt}
+use Rattle.laws.proofs.Any.{any-keep, any-add, any-same}
 use Rattle.words.specs.Word.{wordAt}
-use Rattle.bits.specs.Bits.{bitAt, Spread}
-use Rattle.lent.specs.States.{agentsIn}
-use Rattle.bits.proofs.Any.{any-keep, any-add, any-same}
+use Rattle.store.specs.Flags.{setOf, flagsOf}
+use Rattle.bits.specs.Bits.{bitAt}
+use Rattle.bits.specs.Spread.{Spread}
 use Rattle.bits.proofs.Bits.{bits-from}
 use Rattle.bits.proofs.Filled.{Upto, upto-spread, upto-flags, set-kept}
+use Rattle.lent.specs.States.{agentsIn}
 
 unfoldable pub awakeIn : List ℕ → ℕ → Bool
 awakeIn s i = bitAt (wordAt s (1 + i / 32)) (i % 32)

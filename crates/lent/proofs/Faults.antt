@@ -7,8 +7,8 @@ use Prim.Native.Nat.{ℕ}
 use borrow.Author.Tests.{ne-eqb, le-leb}
 use native.Mathlib.Omega.{arith}
 use lib.Dec.{leb}
-use Rattle.tcc.specs.Sets.{any}
-use Rattle.tcc.proofs.Sets.{any-some, some-any}
+use Rattle.laws.specs.Sets.{any}
+use Rattle.laws.proofs.Sets.{any-some, some-any}
 use Rattle.words.specs.Word.{wordAt}
 use Rattle.lent.specs.States.{runningWord, abortedWord, agentsIn, stateFault}
 

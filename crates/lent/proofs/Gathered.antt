@@ -12,16 +12,17 @@ use native.Mathlib.Numerals.{add-one}
 use native.Mathlib.Omega.{arith}
 use lib.ListN.{length, getD, set, take, drop, length-map, drop-of-length-le}
 use lib.Seq.{drop-cons, set-at, append-snoc}
-use Rattle.tcc.specs.Sets.{below, has}
+use Rattle.laws.specs.Sets.{below, has}
+use Rattle.laws.proofs.Lists.{map-snoc, map-same}
+use Rattle.laws.proofs.Sets.{below-length}
 use Rattle.store.specs.Flags.{setOf}
-use Rattle.store.proofs.Flags.{below-length}
-use Rattle.lent.specs.Lengths.{stateBytes, mapBytes}
 use Rattle.bits.specs.Bits.{bitsValue, bytesOf}
+use Rattle.bits.proofs.Bits.{bitsValue-same}
+use Rattle.bits.proofs.Bytes.{Written, written-more, written-all}
+use Rattle.bits.proofs.Filled.{has-set}
+use Rattle.lent.specs.Lengths.{stateBytes, mapBytes}
 use Rattle.lent.specs.Maps.{mapOf}
 use Rattle.lent.specs.States.{agentWords}
-use Rattle.bits.proofs.Bits.{bitsValue-same}
-use Rattle.bits.proofs.Bytes.{Written, written-more, written-all, map-snoc, map-same}
-use Rattle.bits.proofs.Filled.{has-set}
 
 abbrev pub gathered : ℕ → List Bool → ℕ → ℕ
 gathered n flags k = bitsValue (λ j. getD flags (n * k + j) false) n

@@ -19,19 +19,20 @@ use native.Mathlib.Omega.{arith}
 use lib.Dec.{eqb, leb, ltb}
 use lib.ListN.{length, getD, length-map}
 use lib.Pow.{shr-mod, shr-shr, split}
-use Rattle.tcc.specs.Sets.{Same, below, keep, any, has}
+use Rattle.laws.specs.Sets.{Same, below, keep, any, has}
+use Rattle.laws.proofs.Booleans.{true-is-false}
+use Rattle.laws.proofs.Lists.{map-at, map-same}
+use Rattle.laws.proofs.Sets.{Within, any-some, some-any, on-keep, keep-kept, on-cons, on-map, lt-below, has-member, member-has, has-same, below-length, below-at}
 use Rattle.tcc.specs.Instant.{State, running, aborted}
-use Rattle.tcc.proofs.Sets.{Within, true-is-false, any-some, some-any, on-keep, keep-kept, on-cons, on-map, lt-below, has-member, member-has, has-same}
-use Rattle.store.proofs.Flags.{below-length, below-at, map-at}
 use Rattle.words.specs.Word.{joined, words, wordAt}
 use Rattle.words.specs.Map.{inMap}
-use Rattle.lent.specs.Lengths.{stateBytes, mapBytes}
 use Rattle.bits.specs.Bits.{bitAt, bitsValue, bytesOf}
+use Rattle.bits.proofs.Bits.{bitsValue-below, bitsValue-same, bitsValue-bit}
+use Rattle.bits.proofs.Bytes.{bytesOf-length}
+use Rattle.lent.specs.Lengths.{stateBytes, mapBytes}
 use Rattle.lent.specs.Maps.{tokensIn, mapOf}
 use Rattle.lent.specs.States.{runningWord, abortedWord, agentsIn, stateFault, stateOf, agentWords, stateWords, asBytes, LawfulState, SameState}
 use Rattle.lent.proofs.Agents.{awakeIn, agents-within}
-use Rattle.bits.proofs.Bits.{bitsValue-below, bitsValue-same, bitsValue-bit}
-use Rattle.bits.proofs.Bytes.{bytesOf-length, map-same}
 use Rattle.lent.proofs.Faults.{fault-running, fault-aborted}
 use Rattle.lent.proofs.Tokens.{tokens-within}
 

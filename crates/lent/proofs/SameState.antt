@@ -10,10 +10,10 @@ use mathlib.Core.Bool.{Bool, true, false, cond}
 use mathlib.Core.List.{List, [], _∷_}
 use Prim.Native.Nat.{ℕ}
 use lib.Dec.{eqb}
-use Rattle.tcc.specs.Sets.{Same}
+use Rattle.laws.specs.Sets.{Same}
+use Rattle.laws.proofs.Sets.{same-refl, same-sym, same-trans}
 use Rattle.tcc.specs.Score.{Score}
 use Rattle.tcc.specs.Instant.{Answer, abortedAnswer, State, running, aborted, answer, after, stateAfter}
-use Rattle.tcc.proofs.Sets.{same-refl, same-sym, same-trans}
 use Rattle.tcc.proofs.SameAnswer.{SameAnswer, answer-refl, instant-same}
 use Rattle.words.specs.Word.{wordAt}
 use Rattle.lent.specs.States.{abortedWord, agentsIn, stateOf, SameState}

@@ -10,13 +10,14 @@ use mathlib.Core.List.{List}
 use Prim.Native.Nat.{ℕ, _+_, _*_, _/_, _%_, _<_}
 use native.Mathlib.Omega.{arith}
 use lib.ListN.{getD}
-use Rattle.tcc.specs.Sets.{below}
-use Rattle.tcc.proofs.Sets.{Within, on-keep, below-lt}
-use Rattle.store.specs.Flags.{setOf, flagsOf}
+use Rattle.laws.specs.Sets.{below}
+use Rattle.laws.proofs.Sets.{Within, on-keep, below-lt}
 use Rattle.words.specs.Map.{inMap}
-use Rattle.bits.specs.Bits.{bitAt, Spread}
-use Rattle.lent.specs.Maps.{tokensIn}
+use Rattle.store.specs.Flags.{setOf, flagsOf}
+use Rattle.bits.specs.Bits.{bitAt}
+use Rattle.bits.specs.Spread.{Spread}
 use Rattle.bits.proofs.Filled.{Upto, upto-spread, upto-flags, set-kept}
+use Rattle.lent.specs.Maps.{tokensIn}
 
 pub token-byte : (m : List ℕ) (k j : ℕ) → j < 8 → bitAt (getD m k 0) j ≡ inMap m (8 * k + j)
 unfolding inMap

@@ -3,10 +3,10 @@
 --     mapOf          the map of a set of tokens
 use mathlib.Core.List.{List, map}
 use Prim.Native.Nat.{ℕ, _+_, _*_}
-use Rattle.tcc.specs.Sets.{below, keep, has}
+use Rattle.laws.specs.Sets.{below, keep, has}
 use Rattle.words.specs.Map.{inMap}
-use Rattle.lent.specs.Lengths.{mapBytes}
 use Rattle.bits.specs.Bits.{bitsValue}
+use Rattle.lent.specs.Lengths.{mapBytes}
 
 unfoldable pub tokensIn : List ℕ → List ℕ
 tokensIn m = keep (inMap m) (below 256)

@@ -12,7 +12,7 @@ use mathlib.Core.Bool.{Bool, cond, _&&_, _||_, not}
 use mathlib.Core.List.{List, [], _∷_, map, List·Memᴰ}
 use Prim.Native.Nat.{ℕ, _+_, _*_, _/_, _%_, _<_}
 use lib.Dec.{eqb, leb}
-use Rattle.tcc.specs.Sets.{Same, below, keep, any, has}
+use Rattle.laws.specs.Sets.{Same, below, keep, any, has}
 use Rattle.tcc.specs.Instant.{State, running, aborted}
 use Rattle.words.specs.Word.{wordAt}
 use Rattle.bits.specs.Bits.{bitAt, bitsValue, bytesOf}

@@ -4,7 +4,7 @@ ghost use mathlib.Core.List.{_∷_};
 ghost use Prim.Native.Nat.{ℕ, _≤_};
 ghost use lib.ListN.{length, getD};
 ghost use lib.Dec.{leb};
-ghost use Rattle.tcc.specs.Sets.{any};
+ghost use Rattle.laws.specs.Sets.{any};
 ghost use Rattle.store.specs.Flags.{setOf, flagsOf};
 ghost use Rattle.bits.specs.Bits.{bytesOf};
 ghost use Rattle.lent.specs.Lengths.{stateBytes, mapBytes};

@@ -17,18 +17,19 @@ use Prim.Native.Nat.{ℕ, _+_, _<_, _≤_}
 use native.Mathlib.Decide.{ℕ-discrete}
 use native.Mathlib.Omega.{arith}
 use lib.ListN.{length, getD, set, length-set, List·getD-eq-default}
+use Rattle.laws.proofs.Booleans.{true-is-false}
+use Rattle.laws.proofs.Sets.{Among}
 use Rattle.tcc.specs.Score.{Score, agentAt, rootOf, tokensOf, partsOf, proceduresOf}
 use Rattle.tcc.specs.Lawful.{Lawful}
 use Rattle.tcc.specs.Instant.{Fact, live, held, reached}
 use Rattle.tcc.specs.FixedPoint.{Marked, Sound}
 use Rattle.tcc.specs.declared.Agent.{Agent}
 use Rattle.tcc.specs.declared.Agent.the-variants.{Skip, Abort, Tell, Parallel, When, Next, Unless, Call}
-use Rattle.tcc.proofs.Sets.{Among, true-is-false}
 use Rattle.tcc.proofs.FixedPoint.{reach}
 use Rattle.store.specs.Flags.{setOf}
 use Rattle.store.proofs.Flags.{flag-member, member-flag, set-kept, set-here, set-cases, set-longer, set-more}
-use Rattle.marking.specs.Passed.{Served, Passed}
 use Rattle.store.proofs.Known.{part-lower}
+use Rattle.marking.specs.Passed.{Served, Passed}
 
 module _ (sc : Score) where
   served-more : (lives more holds : List ℕ) → Among lives more → (a : Agent) → Served sc lives holds a → Served sc more holds a

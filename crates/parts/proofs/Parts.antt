@@ -27,14 +27,15 @@ use native.Mathlib.Omega.{arith}
 use lib.Dec.{eqb, ltb}
 use lib.ListN.{length, getD, take, drop, length-drop, drop-of-length-le}
 use lib.Seq.{length-take-le, drop-cons}
-use Rattle.tcc.proofs.Sets.{true-is-false, and-both}
+use Rattle.laws.proofs.Booleans.{true-is-false, and-both}
 use Rattle.words.specs.Word.{words, wordAt, field}
 use Rattle.words.proofs.Words.{words-length}
 use Rattle.format.specs.Format.{isWord}
 use Rattle.form.specs.declared.Form.{Form}
 use Rattle.form.specs.declared.Form.the-variants.{Good, Bytes, Word}
 use Rattle.form.specs.Form.{tokenOf, isInstant, mayFollow, firstAgainst, formOf}
-use Rattle.parts.specs.Instants.{upTo, instantsIn, span, partFrom, partAt}
+use Rattle.parts.specs.Instants.{upTo, instantsIn}
+use Rattle.parts.specs.Parts.{span, partFrom, partAt}
 
 -- ---- words
 

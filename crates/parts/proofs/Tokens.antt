@@ -15,11 +15,11 @@ use native.Mathlib.Omega.{arith}
 use lib.Dec.{eqb}
 use lib.ListN.{length, getD, take, set, replicate, length-set, length-replicate}
 use lib.Seq.{take-suc, take-all}
-use Rattle.tcc.specs.Sets.{Same, keep}
-use Rattle.tcc.proofs.Sets.{on-cons, on-append}
+use Rattle.laws.specs.Sets.{Same, keep}
+use Rattle.laws.proofs.Sets.{on-cons, on-append, keep-append}
 use Rattle.words.specs.Word.{kind}
 use Rattle.store.specs.Flags.{setOf, flagsOf}
-use Rattle.store.proofs.Flags.{keep-append, set-kept, set-here, set-cases, setOf-none, flagsOf-length, flagsOf-member, member-flagsOf, flags-settled, flagsOf-same}
+use Rattle.store.proofs.Flags.{set-kept, set-here, set-cases, setOf-none, flagsOf-length, flagsOf-member, member-flagsOf, flags-settled, flagsOf-same}
 use Rattle.form.specs.Form.{tokenOf}
 use Rattle.parts.specs.Instants.{tokensOf}
 

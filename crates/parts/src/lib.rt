@@ -2,7 +2,8 @@ ghost use mathlib.Core.Path.{_≡_};
 ghost use Prim.Native.Nat.{_*_};
 ghost use Rattle.words.specs.Word.{words};
 ghost use Rattle.store.specs.Flags.{flagsOf};
-ghost use Rattle.parts.specs.Instants.{tokensOf, span, partFrom, partAt};
+ghost use Rattle.parts.specs.Instants.{tokensOf};
+ghost use Rattle.parts.specs.Parts.{span, partFrom, partAt};
 use form::Form;
 use store::Tokens;
 

@@ -11,12 +11,12 @@ use Rattle.verdicts.specs.Verdicts.{numberOf}
 use Rattle.scorefile.specs.Check.{verdict}
 use Rattle.lent.specs.States.{asBytes}
 use Rattle.lent.specs.Lengths.{noScratch}
+use Rattle.run.specs.RunCall.{Lent, lent, Exit, exit}
+use Rattle.run.proofs.RunExits.{turned}
 use Rattle.answer.specs.Answer.{packed, numberIn}
 use Rattle.answer.specs.Replies.{ofRunReply}
 use Rattle.score.specs.ScoreRun.{ScoreRun}
 use Rattle.playing.specs.Played.{fromStart, Played}
-use Rattle.run.specs.RunCall.{Lent, lent, Exit, exit}
-use Rattle.run.proofs.RunExits.{turned}
 
 module _ (score inputs state journal : List ℕ) (starts : numberOf (verdict score) ≡ 0 → state ≡ asBytes (startState (decode score))) where
   abbrev before : Lent

@@ -19,7 +19,7 @@ use Rattle.words.specs.Word.{words}
 use Rattle.form.specs.declared.Form.{Form}
 use Rattle.form.specs.declared.Form.the-variants.{Good, Bytes, Word}
 use Rattle.form.specs.Form.{formOf}
-use Rattle.parts.specs.Instants.{span, partFrom, partAt}
+use Rattle.parts.specs.Parts.{span, partFrom, partAt}
 use Rattle.parts.proofs.Parts.{span-fits}
 use Rattle.reader.specs.Reading.{startBy, startOf, sizeAt, placeAfter}
 

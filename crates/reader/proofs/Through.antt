@@ -14,7 +14,8 @@ use Rattle.words.specs.Word.{words, wordAt}
 use Rattle.form.specs.declared.Form.{Form}
 use Rattle.form.specs.declared.Form.the-variants.{Good, Bytes, Word}
 use Rattle.form.specs.Form.{isInstant, formOf}
-use Rattle.parts.specs.Instants.{instantsIn, span}
+use Rattle.parts.specs.Instants.{instantsIn}
+use Rattle.parts.specs.Parts.{span}
 use Rattle.parts.proofs.Parts.{instants-step, instants-end, part-starts, span-positive, starts-some, good-starts, good-four}
 use Rattle.reader.specs.Reading.{startOf, sizeAt, shownAt, placeAfter, readerAt, movedBy}
 use Rattle.reader.specs.Through.{showing, through, Along, GoesThrough, TurnedDown}

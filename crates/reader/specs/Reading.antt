@@ -21,7 +21,7 @@ use Rattle.words.specs.Word.{words}
 use Rattle.form.specs.declared.Form.{Form}
 use Rattle.form.specs.declared.Form.the-variants.{Good, Bytes, Word}
 use Rattle.form.specs.Form.{formOf}
-use Rattle.parts.specs.Instants.{span}
+use Rattle.parts.specs.Parts.{span}
 use Rattle.reader.specs.declared.Reader.{Reader}
 
 abbrev pub numberOf : Form → ℕ

@@ -17,9 +17,9 @@ use lib.ListN.{length, getD}
 use denote.Ref.{RefT, now}
 use Rattle.words.specs.Word.{words}
 use Rattle.form.specs.Form.{mayFollow, formOf}
-use Rattle.reader.specs.Reading.{numberOf, wordOf, shownAt, made, movedBy}
 use Rattle.form.specs.declared.Form.the-variants.{Good}
 use Rattle.parts.specs.Instants.{instantsIn}
+use Rattle.reader.specs.Reading.{numberOf, wordOf, shownAt, made, movedBy}
 use Rattle.reader.specs.declared.Reader.{Reader}
 
 abbrev pub showing : Reader → List ℕ

@@ -18,7 +18,7 @@ use Rattle.runlist.specs.declared.Stop.{Stop}
 use Rattle.runlist.specs.declared.Stop.the-variants.{Not, Next, Room}
 use Rattle.runlist.specs.Run.{Ran, runFrom}
 use Rattle.runlist.proofs.Counts.{run-few}
-use Rattle.run.specs.RunCall.{Lent, Exit, lengthFault, kept, ending, ended, exit}
+use Rattle.run.specs.RunCall.{Lent, Exit, lengthFault, kept, ending, exit}
 
 ending-proper : (score : List ℕ) (n : ℕ) (why : Stop) (k : ℕ) → k ≤ n → Proper score n (ending why k)
 ending-proper score n Not k h = accepted k h

@@ -7,12 +7,11 @@ use mathlib.Core.List.{List}
 use Prim.Native.Nat.{ℕ}
 use lib.Dec.{eqb}
 use lib.ListN.{length}
-use Rattle.tcc.proofs.Tests.{cond-true, cond-false}
+use Rattle.laws.proofs.Booleans.{cond-true, cond-false, neither}
 use Rattle.format.specs.Decode.{sizes}
 use Rattle.verdicts.specs.declared.Verdict.{Verdict}
 use Rattle.verdicts.specs.Verdicts.{numberOf}
 use Rattle.scorefile.specs.Check.{verdict}
-use Rattle.faults.proofs.Accepted.{neither}
 use Rattle.scorefile.proofs.Stages.{passed}
 use Rattle.scorefile.proofs.Stages as stages
 use Rattle.lent.specs.Lengths.{stateBytes, scratchBytes, noScratch}

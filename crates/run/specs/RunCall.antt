@@ -8,7 +8,7 @@
 --     LeftBy           what its last part leaves
 --     RunCall          its contract
 use mathlib.Core.Path.{_≡_}
-use mathlib.Core.Bool.{Bool, true, false, cond, not, _||_}
+use mathlib.Core.Bool.{Bool, false, cond, not, _||_}
 use mathlib.Core.List.{List, _++_}
 use Prim.Native.Nat.{ℕ, _*_}
 use lib.Dec.{eqb}
@@ -19,15 +19,13 @@ use Rattle.scorefile.specs.Check.{verdict}
 use Rattle.bits.specs.Bits.{bytesOf}
 use Rattle.lent.specs.Lengths.{stateBytes, scratchBytes, noScratch}
 use Rattle.lent.specs.States.{stateFault}
-use Rattle.form.specs.declared.Form.{Form}
-use Rattle.form.specs.declared.Form.the-variants.{Good, Bytes, Word}
 use Rattle.form.specs.Form.{formOf}
 use Rattle.parts.specs.Instants.{inputLists}
-use Rattle.runlist.specs.declared.Stop.{Stop}
-use Rattle.runlist.specs.declared.Stop.the-variants.{Not, Next, Room}
 use Rattle.history.specs.declared.Reply.{Reply}
 use Rattle.history.specs.declared.Reply.the-variants.{Score as Turned, Lengths, State, Unlawful, Full, Accepted}
 use Rattle.history.specs.ByForm.{byForm}
+use Rattle.runlist.specs.declared.Stop.{Stop}
+use Rattle.runlist.specs.declared.Stop.the-variants.{Not, Next, Room}
 use Rattle.runlist.specs.Run.{Ran, runFrom}
 
 pub record Lent : Type 0 where

@@ -12,9 +12,9 @@ ghost use Rattle.form.specs.Form.{formOf};
 ghost use Rattle.parts.specs.Instants.{inputLists};
 ghost use Rattle.runlist.specs.Run.{runFrom};
 ghost use Rattle.run.specs.RunCall.{lent, ending, LeftBy, RunCall};
+use form::Form;
 use format::Sizes;
 use history::Reply;
-use form::Form;
 use runlist::Ended;
 use runlist::Stop;
 

@@ -4,9 +4,9 @@ use mathlib.Core.Path.{_≡_, refl, ap₂}
 use mathlib.Core.List.{List, [], _∷_, _++_, List·Memᴰ·head, List·Memᴰ·tail}
 use Prim.Native.Nat.{ℕ, _*_, _-_}
 use lib.ListN.{length, take}
+use Rattle.laws.proofs.Sets.{Within}
 use Rattle.tcc.specs.Lawful.{Lawful}
 use Rattle.tcc.specs.Instant.{Answer, State, answer, after}
-use Rattle.tcc.proofs.Sets.{Within}
 use Rattle.format.specs.Decode.{sizes, decode}
 use Rattle.lent.specs.States.{asBytes}
 use Rattle.journal.specs.History.{entry, history, Rising}

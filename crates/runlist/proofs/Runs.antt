@@ -8,30 +8,30 @@
 --                      the part of the journal that is lent to an instant
 --     half-ended       so does the end of the list
 use mathlib.Core.Path.{_≡_, refl, sym, ap, ap₂, subst, _∙_}
-use mathlib.Core.Bool.{Bool, true, false, cond}
+use mathlib.Core.Bool.{cond}
 use mathlib.Core.List.{List, [], _∷_, _++_, append-assoc, append-nil}
-use Prim.Native.Nat.{ℕ, zero, suc, _+_, _*_, _-_, _<_, _≤_}
+use Prim.Native.Nat.{ℕ, suc, _+_, _*_, _-_, _≤_}
 use native.Mathlib.Omega.{arith}
 use borrow.Author.Tests.{ne-eqb}
 use lib.Dec.{eqb}
 use lib.ListN.{length, take, drop, length-append, length-drop, take-append-drop}
 use lib.Seq.{take-at, drop-append-add, drop-drop, drop-length, take-all}
 use borrow.Rule.Slice.PartMut.{putMid, post-is}
-use Rattle.tcc.specs.Instant.{State, Answer, answer, after}
+use Rattle.tcc.specs.Instant.{Answer, answer, after}
 use Rattle.format.specs.Decode.{sizes, decode}
 use Rattle.bits.specs.Bits.{bytesOf}
-use Rattle.lent.specs.States.{stateOf, asBytes, LawfulState, SameState}
 use Rattle.bits.proofs.Bytes.{bytesOf-length, bytesOf-append, Written}
+use Rattle.lent.specs.States.{stateOf, asBytes, LawfulState, SameState}
 use Rattle.lent.proofs.Round.{asBytes-same}
 use Rattle.standing.specs.Standing.{stateIn}
 use Rattle.standing.specs.declared.Standing.{Standing}
 use Rattle.parts.specs.Instants.{inputLists}
 use Rattle.journal.specs.History.{entry}
+use Rattle.history.specs.AnswerIn.{answerIn}
 use Rattle.runlist.specs.declared.Stop.{Stop}
 use Rattle.runlist.specs.declared.Stop.the-variants.{Not, Next, Room}
 use Rattle.runlist.specs.declared.Taken.{Taken}
 use Rattle.runlist.specs.declared.Ended.{Ended}
-use Rattle.history.specs.AnswerIn.{answerIn}
 use Rattle.runlist.specs.Run.{stopAt, Ran, stopped, preceded, unlessStopped, runFrom}
 use Rattle.runlist.specs.Advance.{Advanced, RanTo}
 

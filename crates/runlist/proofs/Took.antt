@@ -10,8 +10,8 @@ use native.Mathlib.Omega.{arith}
 use borrow.Author.Tests.{leb-true}
 use lib.Dec.{leb}
 use lib.ListN.{length, drop}
+use Rattle.laws.proofs.Booleans.{true-is-false}
 use Rattle.tcc.specs.Instant.{State, Answer, answer, after}
-use Rattle.tcc.proofs.Sets.{true-is-false}
 use Rattle.format.specs.Decode.{sizes, decode}
 use Rattle.format.specs.Playable.{Playable}
 use Rattle.store.specs.Flags.{setOf}

@@ -8,12 +8,11 @@ use mathlib.Core.List.{List, _++_}
 use Prim.Native.Nat.{ℕ, _*_}
 use lib.Dec.{eqb}
 use lib.ListN.{length, drop}
-use Rattle.tcc.specs.Instant.{State, Answer, answer, after}
-use Rattle.format.specs.Decode.{sizes, decode}
+use Rattle.tcc.specs.Instant.{Answer, after}
+use Rattle.format.specs.Decode.{sizes}
 use Rattle.bits.specs.Bits.{bytesOf}
 use Rattle.lent.specs.States.{stateOf, asBytes, LawfulState}
 use Rattle.standing.specs.Standing.{stateIn}
-use Rattle.journal.specs.History.{entry}
 use Rattle.runlist.specs.declared.Stop.the-variants.{Not}
 use Rattle.runlist.specs.declared.Taken.{Taken}
 use Rattle.runlist.specs.declared.Ended.{Ended}

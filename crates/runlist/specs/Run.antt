@@ -12,7 +12,6 @@ use lib.ListN.{length}
 use Rattle.tcc.specs.Instant.{Answer, after}
 use Rattle.format.specs.Decode.{sizes, decode}
 use Rattle.lent.specs.States.{stateFault, asBytes}
-use Rattle.parts.specs.Instants.{inputsIn}
 use Rattle.journal.specs.History.{entry}
 use Rattle.history.specs.AnswerIn.{answerIn}
 use Rattle.runlist.specs.declared.Stop.{Stop}

@@ -1,13 +1,13 @@
 -- The words before the first zero of a buffer that was clear are those that the run wrote.
 use mathlib.Core.Path.{_≡_, refl, ap, ap₂, _∙_}
-use mathlib.Core.List.{List, [], _∷_, _++_, List·Memᴰ, List·Memᴰ·head, List·Memᴰ·tail}
+use mathlib.Core.List.{List, [], _∷_, _++_, List·Memᴰ·head, List·Memᴰ·tail}
 use Prim.Native.Nat.{ℕ, zero, suc, _*_, _/_, _%_, _^_}
 use native.Mathlib.Omega.{arith}
 use borrow.Author.Tests.{ne-eqb}
 use lib.ListN.{length, take, drop, replicate}
+use Rattle.laws.proofs.Sets.{Within, on-cons, on-append, on-map}
 use Rattle.tcc.specs.Score.{Score}
 use Rattle.tcc.specs.Instant.{State, output, answer, after, startState}
-use Rattle.tcc.proofs.Sets.{Within, on-cons, on-append, on-map}
 use Rattle.words.specs.Word.{joined, words}
 use Rattle.format.specs.Decode.{decode}
 use Rattle.bits.specs.Bits.{bytesOf}

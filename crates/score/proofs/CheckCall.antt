@@ -5,9 +5,9 @@
 use mathlib.Core.Path.{_≡_, sym, ap, _∙_}
 use mathlib.Core.List.{List}
 use Prim.Native.Nat.{ℕ}
-use Rattle.scorefile.specs.Check.{verdict}
 use Rattle.verdicts.specs.Verdicts as verdicts
 use Rattle.verdicts.proofs.Verdicts.{number-few, verdict-settled}
+use Rattle.scorefile.specs.Check.{verdict}
 use Rattle.scorefile.proofs.Values.{verdict-small}
 use Rattle.answer.specs.Answer.{reply, numberIn, valueIn}
 use Rattle.answer.proofs.Answer.{exact}

@@ -7,24 +7,25 @@
 --     one-answer       two calls that return the same number replied the same
 use mathlib.Core.Path.{_≡_, refl, sym, ap, subst⁻¹, _∙_}
 use mathlib.Core.Bool.{Bool, true, false, cond, not}
-use mathlib.Core.List.{List, [], _∷_}
-use Prim.Native.Nat.{ℕ, zero, suc, _^_, _<_, _≤_}
+use mathlib.Core.List.{List}
+use Prim.Native.Nat.{ℕ, _^_, _<_, _≤_}
 use native.Mathlib.Omega.{arith}
 use borrow.Author.Tests.{le-leb, ne-eqb, eqb-false}
 use lib.Dec.{eqb, leb}
-use lib.ListN.{length, length-map, length-take, length-append}
-use Rattle.tcc.specs.Sets.{below, keep, any}
+use lib.ListN.{length, length-map, length-take}
+use Rattle.laws.specs.Sets.{below, keep, any}
+use Rattle.laws.proofs.Booleans.{either}
+use Rattle.laws.proofs.Sets.{below-length, keep-few}
 use Rattle.tcc.specs.Score.{Score, agentAt}
 use Rattle.tcc.specs.Instant.{State as Between, running, aborted, Answer, count, abortedAnswer, quietAnswer, liveIn, heldIn, isAbort, reached, instant, answer, after}
 use Rattle.format.specs.Decode.{sizes, decode}
 use Rattle.format.proofs.Decode.{sizes-few}
 use Rattle.verdicts.specs.declared.Verdict.{Verdict}
 use Rattle.verdicts.specs.declared.Verdict.the-variants.{Accepted}
-use Rattle.scorefile.specs.Check.{verdict}
 use Rattle.verdicts.specs.Verdicts as verdicts
 use Rattle.verdicts.proofs.Verdicts.{number-few, verdict-settled}
+use Rattle.scorefile.specs.Check.{verdict}
 use Rattle.scorefile.proofs.Values.{verdict-small}
-use Rattle.store.proofs.Flags.{below-length, keep-few}
 use Rattle.lent.specs.Maps.{tokensIn}
 use Rattle.lent.specs.States.{stateFault, stateOf, asBytes}
 use Rattle.instant.specs.declared.Reply.{Reply as Replied}
@@ -74,10 +75,6 @@ data Proper : Replied → Type 0 where
 record Replies (e : Exit) : Type 0 where
   proper : Proper (e .reply)
 
-either : (b : Bool) {x y : Exit} → Replies x → Replies y → Replies (cond b x y)
-either true p q = p
-either false p q = q
-
 checked-first : (v : Verdict) (l : Lent) {y : Exit} → verdicts.valueOf v < 2 ^ 24 → Replies y → Replies (cond (not (eqb (verdicts.numberOf v) 0)) (kept l (Turned v)) y)
 checked-first v l {y} h q = go (eqb (verdicts.numberOf v) 0) refl
   where
@@ -96,10 +93,10 @@ unfolding exit
 exit-replies score given l =
     let a = answer (decode score) (stateOf (l .state)) (tokensIn given) in
     checked-first (verdict score) l (verdict-small score)
-    (either (lengthFault given l) (record { proper = lengths })
-    (either (stateFault (sizes score .agents) (l .state)) (record { proper = state })
-    (either (tokenFault score given) (record { proper = input })
-    (either (stateFault (sizes score .agents) (asBytes (after a))) (record { proper = follows })
+    (either Replies (lengthFault given l) (record { proper = lengths })
+    (either Replies (stateFault (sizes score .agents) (l .state)) (record { proper = state })
+    (either Replies (tokenFault score given) (record { proper = input })
+    (either Replies (stateFault (sizes score .agents) (asBytes (after a))) (record { proper = follows })
     (record { proper = answered-proper score (stateOf (l .state)) (tokensIn given) })))))
 
 proper-fits : {r : Replied} → Proper r → Fits (ofReply r)

@@ -11,19 +11,19 @@ use mathlib.Core.List.{List}
 use Prim.Native.Nat.{ℕ, _/_, _^_, _<_}
 use native.Mathlib.Omega.{arith}
 use lib.ListN.{length}
-use Rattle.scorefile.specs.Check.{verdict}
 use Rattle.verdicts.specs.Verdicts as verdicts
 use Rattle.verdicts.proofs.Verdicts.{number-few}
+use Rattle.scorefile.specs.Check.{verdict}
 use Rattle.scorefile.proofs.Values.{verdict-small}
 use Rattle.history.specs.declared.Reply.{Reply as Replied}
 use Rattle.history.proofs.Replies.{Proper, turned, lengths, no-state, unlawful, bytes, word, differs, full, accepted}
+use Rattle.run.specs.RunCall.{Lent, Exit, exit, RunCall}
+use Rattle.run.proofs.Replies.{run-proper}
 use Rattle.answer.specs.Answer.{Fits, packed, Reads}
 use Rattle.answer.specs.Replies.{ofRunReply}
 use Rattle.answer.proofs.Answer.{exact}
 use Rattle.answer.proofs.Replies.{reply-fits}
 use Rattle.score.specs.ScoreRun.{ScoreRun, OneExit}
-use Rattle.run.specs.RunCall.{Lent, Exit, exit, RunCall}
-use Rattle.run.proofs.Replies.{run-proper}
 use Rattle.score.specs.Slice.{Slice}
 
 pub one-exit : OneExit

@@ -1,8 +1,8 @@
 ghost use Rattle.instant.specs.InstantCall.{lent};
+ghost use Rattle.run.specs.RunCall.{lent as lentToRun};
 ghost use Rattle.score.specs.CheckCall.{CheckCall};
 ghost use Rattle.score.specs.ScoreInstant.{ScoreInstant};
 ghost use Rattle.score.specs.ScoreRun.{ScoreRun};
-ghost use Rattle.run.specs.RunCall.{lent as lentToRun};
 ghost use Rattle.score.specs.ScoreJournalCheck.{ScoreJournalCheck};
 
 // Checks a score.

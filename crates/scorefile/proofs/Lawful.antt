@@ -9,22 +9,23 @@ use Prim.Native.Nat.{ℕ, _+_, _*_, _<_, _≤_}
 use native.Mathlib.Nat.{zero-add}
 use native.Mathlib.Omega.{arith}
 use lib.ListN.{length, drop}
+use Rattle.laws.proofs.Sets.{Within}
 use Rattle.tcc.specs.Lawful.{Lawful}
 use Rattle.tcc.specs.Unguarded.{Reaches, circular}
-use Rattle.tcc.proofs.Sets.{Within}
 use Rattle.tcc.proofs.Unguarded.{circular-exact}
 use Rattle.words.specs.Word.{field, words, wordAt}
 use Rattle.words.proofs.Words.{words-length}
-use Rattle.verdicts.specs.declared.Verdict.the-variants.{Accepted}
 use Rattle.format.specs.Decode.{sizes, decode}
-use Rattle.verdicts.specs.Verdicts.{numberOf, orElse}
-use Rattle.faults.specs.Faults.{lengthVerdict, headVerdict, countVerdict, firstFault, Faultless}
-use Rattle.circles.specs.Circles.{circleFrom}
-use Rattle.scorefile.specs.Check.{verdict}
-use Rattle.verdicts.proofs.Verdicts.{both-accepted}
-use Rattle.faults.proofs.Accepted.{length-accepted, count-accepted, tokens-known, parts-lower, roots-known, ports-known, ports-ordered, rules-known}
-use Rattle.circles.proofs.Circle.{calls-known, circle-free}
 use Rattle.format.proofs.Decode.{decode-agents, decode-roots, decode-tokens, decode-lowest, decode-highest, decode-rules, on-rules, sizes-few}
+use Rattle.verdicts.specs.declared.Verdict.the-variants.{Accepted}
+use Rattle.verdicts.specs.Verdicts.{numberOf, orElse}
+use Rattle.verdicts.proofs.Verdicts.{both-accepted}
+use Rattle.faults.specs.Faults.{lengthVerdict, headVerdict, countVerdict, firstFault}
+use Rattle.faults.specs.Faultless.{Faultless}
+use Rattle.faults.proofs.Accepted.{length-accepted, count-accepted, tokens-known, parts-lower, roots-known, ports-known, ports-ordered, rules-known}
+use Rattle.circles.specs.Circles.{circleFrom}
+use Rattle.circles.proofs.Circle.{calls-known, circle-free}
+use Rattle.scorefile.specs.Check.{verdict}
 
 -- each test in turn
 record Passed (s : List ℕ) : Type 0 where

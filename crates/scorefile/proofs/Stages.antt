@@ -11,7 +11,7 @@ use mathlib.Core.List.{List}
 use Prim.Native.Nat.{ℕ}
 use borrow.Author.Tests.{eq-eqb, ne-eqb}
 use lib.Dec.{eqb}
-use Rattle.tcc.proofs.Tests.{cond-true, cond-false}
+use Rattle.laws.proofs.Booleans.{cond-true, cond-false}
 use Rattle.words.specs.Word.{wordAt}
 use Rattle.format.specs.declared.Sizes.{Sizes}
 use Rattle.format.specs.Format.{sizesOf}
@@ -19,8 +19,8 @@ use Rattle.format.specs.Decode.{sizes}
 use Rattle.format.specs.Playable.{Playable}
 use Rattle.verdicts.specs.declared.Verdict.{Verdict}
 use Rattle.verdicts.specs.Verdicts.{numberOf}
-use Rattle.scorefile.specs.Check.{verdict}
 use Rattle.verdicts.proofs.Verdicts.{accepted-only}
+use Rattle.scorefile.specs.Check.{verdict}
 use Rattle.scorefile.proofs.Lawful.{accepted-faultless, accepted-lawful}
 
 -- by a verdict and its number, as the check returned them

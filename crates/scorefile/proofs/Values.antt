@@ -8,7 +8,7 @@ use native.Mathlib.Decide.{ℕ-discrete}
 use native.Mathlib.Omega.{arith}
 use lib.Dec.{eqb, leb, ltb}
 use lib.ListN.{length, drop, length-map, length-take, length-drop}
-use Rattle.tcc.specs.Sets.{any}
+use Rattle.laws.specs.Sets.{any}
 use Rattle.tcc.specs.Score.{Score, tokensOf, partsOf, proceduresOf}
 use Rattle.tcc.specs.Unguarded.{circular}
 use Rattle.words.specs.Word.{field, words, wordAt}
@@ -16,18 +16,18 @@ use Rattle.words.proofs.Words.{words-length}
 use Rattle.format.specs.declared.Sizes.{Sizes}
 use Rattle.format.specs.declared.Decoded.{Decoded}
 use Rattle.format.specs.declared.Decoded.the-variants.{Whole, Malformed}
-use Rattle.verdicts.specs.declared.Verdict.{Verdict}
-use Rattle.verdicts.specs.declared.Verdict.the-variants.{Accepted, Length, Head, Count, Form, Token, Reference, Circle}
 use Rattle.format.specs.Format.{isWord, decodeAgent}
 use Rattle.format.specs.Decode.{sizes, decode}
+use Rattle.format.proofs.Decode.{sizes-few}
+use Rattle.verdicts.specs.declared.Verdict.{Verdict}
+use Rattle.verdicts.specs.declared.Verdict.the-variants.{Accepted, Length, Head, Count, Form, Token, Reference, Circle}
 use Rattle.verdicts.specs.Verdicts.{numberOf, valueOf, orElse}
+use Rattle.verdicts.proofs.Verdicts.{orElse-accepted, orElse-refused}
 use Rattle.wordfaults.specs.WordFaults.{atWord, agentVerdict}
 use Rattle.faults.specs.Faults.{wordVerdict, firstFault, lengthVerdict, headVerdict, countVerdict}
+use Rattle.faults.proofs.Accepted.{length-accepted}
 use Rattle.circles.specs.Circles.{circleFrom}
 use Rattle.scorefile.specs.Check.{verdict}
-use Rattle.faults.proofs.Accepted.{length-accepted}
-use Rattle.format.proofs.Decode.{sizes-few}
-use Rattle.verdicts.proofs.Verdicts.{orElse-accepted, orElse-refused}
 
 record Small (n : ℕ) (v : Verdict) : Type 0 where
   small : valueOf v ≤ n

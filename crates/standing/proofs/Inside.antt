@@ -12,7 +12,7 @@ use Prim.Native.Nat.{ℕ, _<_, _≤_}
 use native.Mathlib.Omega.{arith}
 use lib.Dec.{eqb}
 use lib.ListN.{length, getD}
-use Rattle.tcc.specs.Sets.{Same, any, has}
+use Rattle.laws.specs.Sets.{Same, any, has}
 use Rattle.tcc.specs.Score.{Score, agentAt}
 use Rattle.tcc.specs.Lawful.{Lawful, AgentsBelow}
 use Rattle.tcc.specs.Instant.{Fact, liveIn, heldIn, isAbort, Answer, abortedAnswer, quietAnswer, answerOf, reached, instant, State, running, aborted, answer, after}

@@ -1,18 +1,19 @@
 -- What goes to the ports.
 --     ports-flags     the flags from the lowest to the highest port are the output's
 --     output-below    the output has no token past the highest port
-use mathlib.Core.Path.{_≡_, refl, sym, ap, subst, _∙_}
+use mathlib.Core.Path.{_≡_, sym, subst, _∙_}
 use mathlib.Core.Bool.{Bool, true, false, _&&_}
-use mathlib.Core.List.{List, map, List·Memᴰ, List·Memᴰ·head}
+use mathlib.Core.List.{List, map, List·Memᴰ}
 use Prim.Native.Nat.{ℕ, suc, _+_, _-_, _<_, _≤_}
 use borrow.Author.Tests.{leb-true, le-leb}
 use native.Mathlib.Omega.{arith}
 use lib.Dec.{leb}
 use lib.ListN.{length, getD}
-use Rattle.tcc.specs.Sets.{below, keep, has}
+use Rattle.laws.specs.Sets.{below, has}
+use Rattle.laws.proofs.Booleans.{and-both, both-and}
+use Rattle.laws.proofs.Sets.{Within, keep-kept, on-keep, on-map, map-member, has-member, member-has, below-lt, lt-below}
 use Rattle.tcc.specs.Score.{Score}
 use Rattle.tcc.specs.Instant.{output}
-use Rattle.tcc.proofs.Sets.{Within, and-both, both-and, keep-kept, on-keep, on-map, map-member, has-member, member-has, below-lt, lt-below}
 use Rattle.store.specs.Flags.{setOf, flagsOf}
 use Rattle.store.proofs.Flags.{flag-member, member-flag, flags-settled}
 

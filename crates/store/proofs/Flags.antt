@@ -1,8 +1,4 @@
 -- Laws of sets as flags.
---     keep-append        the kept of two lists, one after the other
---     keep-few           no more are kept than there are
---     below-length, below-at     `below n` has n entries, entry i is i
---     map-at             entry i of the images is the image of entry i
 --     flag-member, member-flag   the members of a set are the numbers flagged
 --     member-within      which are below the number of flags
 --     set-kept           a flag set keeps the members
@@ -17,64 +13,20 @@
 --     flags-settled      flags with the set's members below n are the set's flags
 --     flagsOf-same       equal sets have equal flags
 use mathlib.Core.Path.{_≡_, refl, sym, ap, _∙_}
-use mathlib.Core.Bool.{Bool, true, false, cond}
-use mathlib.Core.List.{List, [], _∷_, _++_, map, List·Memᴰ, List·Memᴰ·head, List·Memᴰ·tail}
+use mathlib.Core.Bool.{Bool, true, false}
+use mathlib.Core.List.{List, [], _∷_, _++_, List·Memᴰ}
 use mathlib.Core.Logic.{_⊎_, inl, inr, by-cases}
 use Prim.Native.Nat.{ℕ, zero, suc, _≤_, _<_}
-use native.Mathlib.Nat.{not-suc-le-zero, le-of-suc-le-suc}
+use native.Mathlib.Nat.{not-suc-le-zero}
 use native.Mathlib.Decide.{decLt, ℕ-discrete}
 use native.Mathlib.Omega.{arith}
-use lib.ListN.{length, getD, set, replicate, length-append, length-set, length-map, length-replicate, getD-replicate, List·getD-eq-default, List·getD-append}
-use lib.Seq.{getD-set-same, getD-set-other, getD-at, ext-getD}
-use Rattle.tcc.specs.Sets.{Same, below, keep, has}
-use Rattle.tcc.proofs.Sets.{Within, Among, true-is-false, on-keep, keep-kept, keep-agrees, below-lt, lt-below, has-member, member-has, not-has}
+use lib.ListN.{length, getD, set, replicate, length-append, length-set, length-map, length-replicate, getD-replicate, List·getD-eq-default}
+use lib.Seq.{getD-set-same, getD-set-other, ext-getD}
+use Rattle.laws.specs.Sets.{Same, below, keep, has}
+use Rattle.laws.proofs.Lists.{map-at}
+use Rattle.laws.proofs.Booleans.{true-is-false}
+use Rattle.laws.proofs.Sets.{Among, on-keep, keep-kept, keep-agrees, below-lt, lt-below, has-member, member-has, not-has, keep-append, keep-none, keep-few, keep-more, below-length, below-at}
 use Rattle.store.specs.Flags.{setOf, flagsOf}
-
-module _ {A : Type 0} (f : A → Bool) where
-  pub keep-append : (l k : List A) → keep f (l ++ k) ≡ keep f l ++ keep f k
-  keep-append [] k = refl
-  keep-append (x ∷ l) k = go (f x) (keep-append l k)
-    where
-      go : (b : Bool) → keep f (l ++ k) ≡ keep f l ++ keep f k → cond b (x ∷ keep f (l ++ k)) (keep f (l ++ k)) ≡ cond b (x ∷ keep f l) (keep f l) ++ keep f k
-      go true e = ap (λ t. x ∷ t) e
-      go false e = e
-
-  keep-none : (l : List A) → Within (λ x. f x ≡ false) l → keep f l ≡ []
-  keep-none [] h = refl
-  keep-none (x ∷ l) h = let p : f x ≡ false = h x (List·Memᴰ·head refl) in rw p (keep-none l (λ y m. h y (List·Memᴰ·tail m)))
-
-  pub keep-few : (l : List A) → length (keep f l) ≤ length l
-  keep-few [] = omega arith
-  keep-few (x ∷ l) = go (f x) (keep-few l)
-    where
-      go : (b : Bool) → length (keep f l) ≤ length l → length (cond b (x ∷ keep f l) (keep f l)) ≤ suc (length l)
-      go true h = omega arith
-      go false h = omega arith
-
-  keep-more : (g : A → Bool) (l : List A) → Within (λ x. f x ≡ true → g x ≡ true) l → length (keep f l) ≤ length (keep g l)
-  keep-more g [] h = omega arith
-  keep-more g (x ∷ l) h = go (f x) (g x) (h x (List·Memᴰ·head refl)) (keep-more g l (λ y m. h y (List·Memᴰ·tail m)))
-    where
-      go : (b c : Bool) → (b ≡ true → c ≡ true) → length (keep f l) ≤ length (keep g l) → length (cond b (x ∷ keep f l) (keep f l)) ≤ length (cond c (x ∷ keep g l) (keep g l))
-      go true true e rest = omega arith
-      go true false e rest = absurd (true-is-false (e refl) refl)
-      go false true e rest = omega arith
-      go false false e rest = rest
-
-pub below-length : (n : ℕ) → length (below n) ≡ n
-below-length zero = refl
-below-length (suc n) = omega (arith, length-append (below n) (n ∷ []), below-length n)
-
-pub below-at : (n i : ℕ) → i < n → getD (below n) i 0 ≡ i
-below-at zero i h = absurd (not-suc-le-zero h)
-below-at (suc n) i h = by-cases (decLt i n)
-    (λ l. List·getD-append (below n) (n ∷ []) 0 i (omega (arith, below-length n)) ∙ below-at n i l)
-    (λ g. let e : n ≡ i = omega arith in getD-at (below n) n [] 0 i (below-length n ∙ e) ∙ e)
-
-pub map-at : {A B : Type 0} (f : A → B) (l : List A) (i : ℕ) (d : A) (e : B) → i < length l → getD (map f l) i e ≡ f (getD l i d)
-map-at f [] i d e h = absurd (not-suc-le-zero h)
-map-at f (x ∷ l) zero d e h = refl
-map-at f (x ∷ l) (suc i) d e h = map-at f l i d e (le-of-suc-le-suc h)
 
 -- a test that one number more passes
 module _ (f g : ℕ → Bool) (i : ℕ) (others : (j : ℕ) → (j ≡ i → ⊥) → f j ≡ g j) (out : f i ≡ false) (in′ : g i ≡ true) where

@@ -12,16 +12,17 @@ use mathlib.Core.List.{List, List·Memᴰ}
 use Prim.Native.Nat.{ℕ, _<_, _≤_}
 use native.Mathlib.Omega.{arith}
 use lib.ListN.{length, getD}
-use Rattle.tcc.specs.Sets.{has}
+use Rattle.laws.specs.Sets.{has}
+use Rattle.laws.proofs.Booleans.{true-is-false}
+use Rattle.laws.proofs.Sets.{member-has, not-has}
 use Rattle.tcc.specs.Score.{Score, agentAt, tokensOf, partsOf, proceduresOf}
 use Rattle.tcc.specs.Lawful.{Lawful}
 use Rattle.tcc.specs.declared.Agent.{Agent}
-use Rattle.tcc.proofs.Sets.{true-is-false, member-has, not-has}
 use Rattle.format.specs.Decode.{sizes, decode}
 use Rattle.format.specs.declared.Sizes.{Sizes}
+use Rattle.format.specs.Playable.{Playable}
 use Rattle.format.proofs.Decode.{decode-agents, decode-roots}
 use Rattle.store.specs.Flags.{setOf}
-use Rattle.format.specs.Playable.{Playable}
 use Rattle.store.proofs.Flags.{flag-member, member-flag}
 
 module _ {s : List ℕ} (p : Playable s) where

@@ -1,6 +1,4 @@
 -- A pass over the rules, word by word, and the clash, token by token.
---     rulesFrom          the first word that is a rule
---     rule-member        the rule of each word from there on is one of the score's
 --     adds-premises      a rule that adds its conclusion has its premises in
 --     adds-new           and its conclusion out
 --     adds-nothing       the store has the conclusion of any other if it has the premises
@@ -12,42 +10,25 @@
 --     flooded-none, flooded-more     tokens brought in one by one, from 0 on
 use mathlib.Core.Path.{_≡_, refl, sym, subst}
 use mathlib.Core.Bool.{Bool, true, false, not, _&&_}
-use mathlib.Core.List.{List, [], _∷_, List·Memᴰ, List·Memᴰ·head, List·Memᴰ·tail, Memᴰ·cast}
+use mathlib.Core.List.{List, List·Memᴰ, List·Memᴰ·head, List·Memᴰ·tail, Memᴰ·cast}
 use mathlib.Core.Logic.{inl, inr, ⊎-elim, by-cases}
-use Prim.Native.Nat.{ℕ, zero, suc, _+_, _-_, _≤_, _<_}
-use native.Mathlib.Nat.{not-suc-le-zero, le-of-suc-le-suc}
+use Prim.Native.Nat.{ℕ, _+_, _≤_, _<_}
+use native.Mathlib.Nat.{not-suc-le-zero}
 use native.Mathlib.Decide.{decLt}
 use native.Mathlib.Omega.{arith}
-use lib.ListN.{length, getD, set, drop, length-set, length-drop}
-use lib.Seq.{getD-drop}
+use lib.ListN.{length, getD, set, length-set}
+use Rattle.laws.proofs.Booleans.{and-both, true-is-false}
+use Rattle.laws.proofs.Sets.{Within, on-cons}
 use Rattle.tcc.specs.Store.{Derived, by-rule}
-use Rattle.tcc.proofs.Sets.{Within, and-both, true-is-false, on-cons, map-member}
 use Rattle.tcc.proofs.Closure.{Passes}
 use Rattle.words.specs.Word.{field, words, wordAt}
 use Rattle.words.proofs.Field.{field-below}
 use Rattle.format.specs.Format.{ruleOf}
-use Rattle.format.specs.Decode.{sizes, decode}
-use Rattle.format.proofs.Decode.{on-rules}
+use Rattle.format.specs.Decode.{decode}
+use Rattle.format.proofs.Decode.{rulesFrom, rule-member, on-rules}
 use Rattle.store.specs.Flags.{setOf}
 use Rattle.store.specs.Passes.{adds, Passed, Flooded}
 use Rattle.store.proofs.Flags.{flag-member, member-flag, set-kept, set-here, set-cases, set-longer}
-
-abbrev pub rulesFrom : List ℕ → ℕ
-rulesFrom s = 2 + sizes s .agents + sizes s .procedures
-
-entry-member : (l : List ℕ) (j : ℕ) → j < length l → List·Memᴰ (getD l j 0) l
-entry-member [] j h = absurd (not-suc-le-zero h)
-entry-member (x ∷ l) zero h = List·Memᴰ·head refl
-entry-member (x ∷ l) (suc j) h = List·Memᴰ·tail (entry-member l j (le-of-suc-le-suc h))
-
-pub rule-member : (s : List ℕ) (k : ℕ) → rulesFrom s ≤ k → k < length (words s) → List·Memᴰ (ruleOf (wordAt s k)) (decode s .rules)
-unfolding decode
-rule-member s k from within =
-    let start = rulesFrom s in
-    let j = k - start in
-    let e : start + j ≡ k = omega arith in
-    let m : List·Memᴰ (getD (drop start (words s)) j 0) (drop start (words s)) = entry-member (drop start (words s)) j (omega (arith, length-drop start (words s))) in
-    map-member ruleOf (subst (λ w. List·Memᴰ w (drop start (words s))) (rw e at (getD-drop start (words s) j 0)) m)
 
 module _ (store : List Bool) (w : ℕ) where
   pub adds-premises : adds store w ≡ true → Within (λ t. List·Memᴰ t (setOf store)) (ruleOf w .premises)

@@ -9,10 +9,11 @@ use mathlib.Core.List.{List, List·Memᴰ}
 use mathlib.Core.Logic.{⊎-elim}
 use Prim.Native.Nat.{ℕ, _<_}
 use lib.ListN.{length, getD}
+use Rattle.laws.proofs.Booleans.{true-is-false}
+use Rattle.laws.proofs.Sets.{Within, Among}
 use Rattle.tcc.specs.Score.{Score}
 use Rattle.tcc.specs.Lawful.{Lawful}
 use Rattle.tcc.specs.Store.{Derived, by-clash, storeRules, closure}
-use Rattle.tcc.proofs.Sets.{Within, Among, true-is-false}
 use Rattle.tcc.proofs.Closure.{Follows}
 use Rattle.tcc.proofs.Store.{store-follows, derived-least, closure-exact}
 use Rattle.store.specs.Flags.{setOf, flagsOf}

@@ -5,7 +5,7 @@ use mathlib.Core.Bool.{Bool, false}
 use mathlib.Core.List.{List, map}
 use Prim.Native.Nat.{ℕ}
 use lib.ListN.{length, getD}
-use Rattle.tcc.specs.Sets.{below, keep, has}
+use Rattle.laws.specs.Sets.{below, keep, has}
 
 unfoldable pub setOf : List Bool → List ℕ
 setOf flags = keep (λ i. getD flags i false) (below (length flags))

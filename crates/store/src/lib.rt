@@ -3,8 +3,8 @@ ghost use Prim.Native.Nat.{_+_, _≤_};
 ghost use lib.ListN.{length};
 ghost use Rattle.tcc.specs.Store.{closure};
 ghost use Rattle.format.specs.Decode.{sizes, decode};
-ghost use Rattle.store.specs.Flags.{setOf, flagsOf};
 ghost use Rattle.format.specs.Playable.{Playable};
+ghost use Rattle.store.specs.Flags.{setOf, flagsOf};
 ghost use Rattle.store.specs.Passes.{adds, Passed, Flooded};
 use format::Sizes;
 

@@ -7,7 +7,8 @@ use mathlib.Core.Path.{_≡_, refl, sym, subst}
 use mathlib.Core.List.{List, [], _∷_, List·Memᴰ, List·Memᴰ·head, List·Memᴰ·tail}
 use Prim.Native.Nat.{ℕ}
 use borrow.Author.Tests.{ne-eqb}
-use Rattle.tcc.specs.Sets.{Same}
+use Rattle.laws.specs.Sets.{Same}
+use Rattle.laws.proofs.Sets.{Within, on-append}
 use Rattle.tcc.specs.Score.{Score, agentAt, partsOf}
 use Rattle.tcc.specs.Lawful.{Lawful, AgentsBelow}
 use Rattle.tcc.specs.Order.{Item, agent, input, left, wakes, awakeNext, start}
@@ -18,7 +19,6 @@ use Rattle.tcc.specs.WeightBound.{ItemsBelow}
 use Rattle.tcc.specs.Chain.{Chain, none, then, AtInstant, Along}
 use Rattle.tcc.specs.declared.Agent.{Agent}
 use Rattle.tcc.specs.declared.Agent.the-variants.{Skip, Abort, Tell, Parallel, When, Next, Unless, Call}
-use Rattle.tcc.proofs.Sets.{Within, on-append}
 use Rattle.tcc.proofs.Confluence.{confluence}
 use Rattle.tcc.proofs.Multiset.{part-below, start-below, order-below}
 use Rattle.tcc.proofs.WeightBound.{weight-bound}

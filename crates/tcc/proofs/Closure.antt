@@ -19,9 +19,10 @@ use native.Mathlib.Omega.{arith}
 use lib.ListN.{length}
 use lib.Dec.{eqb}
 use borrow.Author.Tests.{eqb-true, eq-eqb}
-use Rattle.tcc.specs.Sets.{any}
+use Rattle.laws.specs.Sets.{any}
+use Rattle.laws.proofs.Booleans.{true-is-false}
+use Rattle.laws.proofs.Sets.{Within, Among, any-some, some-any, every-each, each-every, on-cons}
 use Rattle.tcc.specs.Closure.{Rule, Firing, silent, found, fires, passing, firing, closeWithin, close}
-use Rattle.tcc.proofs.Sets.{Within, Among, any-some, some-any, every-each, each-every, on-cons, true-is-false}
 
 abbrev pub Decides : {A : Type 0} → (A → A → Bool) → Type 0
 Decides {A} same = (x y : A) → (same x y ≡ true → x ≡ y) × (x ≡ y → same x y ≡ true)

@@ -10,7 +10,9 @@ use mathlib.Core.List.{List, [], _∷_, _++_, map, List·Memᴰ, List·Memᴰ·h
 use mathlib.Core.Logic.{_⊎_, inl, inr, ⊎-elim}
 use Prim.Native.Nat.{ℕ, _<_}
 use lib.ListN.{length}
-use Rattle.tcc.specs.Sets.{Same, below, has}
+use Rattle.laws.specs.Sets.{Same, below, has}
+use Rattle.laws.proofs.Booleans.{true-is-false, and-both, both-and}
+use Rattle.laws.proofs.Sets.{Within, has-member, member-has, on-append, on-map, on-keep, keep-kept, map-member, lt-below, same-sym, same-trans}
 use Rattle.tcc.specs.Score.{Score, agentAt}
 use Rattle.tcc.specs.Store.{Closes}
 use Rattle.tcc.specs.Order.{Item, agent, input, End, aborted, left, Order, Quiet, awakeNext, start}
@@ -19,7 +21,6 @@ use Rattle.tcc.specs.FixedPoint.{Closed, Sound, Marked, Settled}
 use Rattle.tcc.specs.Confluence.{QuietAs, Confluence, Reduced}
 use Rattle.tcc.specs.declared.Agent.{Agent}
 use Rattle.tcc.specs.declared.Agent.the-variants.{Abort, Tell, Parallel, When, Call}
-use Rattle.tcc.proofs.Sets.{Within, true-is-false, and-both, both-and, has-member, member-has, on-append, on-map, on-keep, keep-kept, map-member, lt-below, same-sym, same-trans}
 use Rattle.tcc.proofs.Store.{store-follows, follows-rules, follows-clash, closes-follows, closes-least}
 use Rattle.tcc.proofs.FixedPoint.{Reached, reach, awake-member, member-awake, settles, aborts}
 use Rattle.tcc.proofs.Order.{Touched, EndWithin, order-within, order-aborts, Done, Ran, order-ran, Stuck, quiet-stuck, quiet-inputs, done-leaves, stuck-leaves, done-reducible, stuck-reducible, agentsIn, agents-in, in-agents}

@@ -7,12 +7,12 @@ use mathlib.Core.List.{List, [], _∷_, _++_}
 use mathlib.Core.Logic.{_⊎_, inl, inr}
 use Prim.Native.Nat.{ℕ, zero, suc, _<_}
 use native.Mathlib.Omega.{arith}
+use Rattle.laws.proofs.Sets.{Within}
 use Rattle.tcc.specs.Score.{Score}
 use Rattle.tcc.specs.Lawful.{Lawful}
 use Rattle.tcc.specs.Weight.{IsWeight, weight}
 use Rattle.tcc.specs.Order.{Item, agent, End, aborted, left, Order, stop, step, abort, Finished}
 use Rattle.tcc.specs.WeightBound.{ItemsBelow, Finishes, CarriesOn}
-use Rattle.tcc.proofs.Sets.{Within}
 use Rattle.tcc.proofs.Multiset.{summed, step-below, order-below}
 use Rattle.tcc.proofs.WeightBound.{itemWeight, step-falls}
 use Rattle.tcc.proofs.Weight.{one-weight}

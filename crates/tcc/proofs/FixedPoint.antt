@@ -22,7 +22,9 @@ use Prim.Native.Nat.{ℕ, zero, suc, _+_, _<_}
 use native.Mathlib.Omega.{arith}
 use lib.ListN.{length, getD}
 use borrow.Author.Tests.{eqb-true, eq-eqb}
-use Rattle.tcc.specs.Sets.{Same, below, any, has}
+use Rattle.laws.specs.Sets.{Same, below, any, has}
+use Rattle.laws.proofs.Booleans.{true-is-false}
+use Rattle.laws.proofs.Sets.{Within, any-some, some-any, member-has, not-has, has-same, on-cons, on-append, on-map, map-member, keep-agrees, same-sym}
 use Rattle.tcc.specs.Closure.{Rule}
 use Rattle.tcc.specs.Score.{Score, agentAt, partsOf}
 use Rattle.tcc.specs.Lawful.{Lawful, AgentsBelow}
@@ -31,7 +33,6 @@ use Rattle.tcc.specs.Instant.{Fact, live, held, sameFact, effects, effec
 use Rattle.tcc.specs.FixedPoint.{Closed, Sound, Reach, Marked, Settled, Settles, Aborts, StaysKnown}
 use Rattle.tcc.specs.declared.Agent.{Agent}
 use Rattle.tcc.specs.declared.Agent.the-variants.{Skip, Abort, Tell, Parallel, When, Next, Unless, Call}
-use Rattle.tcc.proofs.Sets.{Within, true-is-false, any-some, some-any, member-has, not-has, has-same, on-cons, on-append, on-map, map-member, keep-agrees, same-sym}
 use Rattle.tcc.proofs.Closure.{Decides, Passes, Follows, close-above, close-closed, close-least}
 use Rattle.tcc.proofs.Store.{store-follows, follows-rules, follows-clash}
 

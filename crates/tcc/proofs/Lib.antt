@@ -1,5 +1,3 @@
-pub mod Sets
-pub mod Tests
 pub mod Closure
 pub mod Store
 pub mod FixedPoint

@@ -9,12 +9,13 @@ use mathlib.Core.Bool.{Bool, true, false}
 use mathlib.Core.List.{List, [], _∷_, List·Memᴰ, List·Memᴰ·head, List·Memᴰ·tail}
 use mathlib.Core.Logic.{_⊎_, inl, inr}
 use Prim.Native.Nat.{ℕ}
-use Rattle.tcc.specs.Sets.{has}
+use Rattle.laws.specs.Sets.{has}
+use Rattle.laws.proofs.Booleans.{true-is-false}
+use Rattle.laws.proofs.Sets.{Within, Among, on-cons, has-member, member-has}
 use Rattle.tcc.specs.Score.{Score, agentAt}
 use Rattle.tcc.specs.Order.{Item, agent, input, Pick, Step, skip, tell, input-tell, parallel, call, when, unless, Quiet}
 use Rattle.tcc.specs.declared.Agent.{Agent}
 use Rattle.tcc.specs.declared.Agent.the-variants.{Skip, Abort, Tell, Parallel, When, Next, Unless, Call}
-use Rattle.tcc.proofs.Sets.{Within, Among, on-cons, true-is-false, has-member, member-has}
 use Rattle.tcc.proofs.Store.{closure-exact}
 use Rattle.tcc.proofs.Order.{pick-member, member-pick, step-picks, Stuck, quiet-stuck, quiet-inputs}
 

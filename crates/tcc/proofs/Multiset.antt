@@ -15,13 +15,13 @@ use mathlib.Core.Logic.{_⊎_, inl, inr}
 use Prim.Native.Nat.{ℕ, _+_, _<_}
 use native.Mathlib.Omega.{arith}
 use lib.ListN.{length}
+use Rattle.laws.proofs.Sets.{Within}
 use Rattle.tcc.specs.Score.{Score, agentAt, rootOf, partsOf, proceduresOf}
 use Rattle.tcc.specs.Lawful.{Lawful, AgentsBelow}
 use Rattle.tcc.specs.Order.{Item, agent, input, Pick, here, there, Step, skip, tell, input-tell, parallel, call, when, unless, left, Order, stop, step, start}
 use Rattle.tcc.specs.WeightBound.{ItemsBelow}
 use Rattle.tcc.specs.declared.Agent.{Agent}
 use Rattle.tcc.specs.declared.Agent.the-variants.{Call}
-use Rattle.tcc.proofs.Sets.{Within}
 use Rattle.tcc.proofs.Order.{pick-member, pick-left}
 
 abbrev pub summed : {A : Type 0} → (A → ℕ) → List A → ℕ

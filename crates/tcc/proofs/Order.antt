@@ -17,6 +17,7 @@ use mathlib.Core.List.{List, [], _∷_, _++_, List·Memᴰ, List·Memᴰ·head, 
 use mathlib.Core.Logic.{⊎-elim}
 use Prim.Native.Nat.{ℕ}
 use native.Mathlib.Omega.{arith}
+use Rattle.laws.proofs.Sets.{Within, Among, member-has, not-has, on-cons}
 use Rattle.tcc.specs.Score.{Score, agentAt, rootOf}
 use Rattle.tcc.specs.Store.{Closes, storeRules}
 use Rattle.tcc.specs.Order.{Item, agent, input, Pick, here, there, Step, skip, tell, input-tell, parallel, call, when, unless, End, aborted, left, Order, stop, step, abort, Quiet, wakes}
@@ -24,7 +25,6 @@ use Rattle.tcc.specs.Instant.{leaves, reducible}
 use Rattle.tcc.specs.FixedPoint.{Closed, Marked}
 use Rattle.tcc.specs.declared.Agent.{Agent}
 use Rattle.tcc.specs.declared.Agent.the-variants.{Skip, Abort, Tell, Parallel, When, Next, Unless, Call}
-use Rattle.tcc.proofs.Sets.{Within, Among, member-has, not-has, on-cons}
 use Rattle.tcc.proofs.Closure.{Follows}
 use Rattle.tcc.proofs.Store.{store-follows, closes-above, closes-follows, closes-least, closure-exact}
 

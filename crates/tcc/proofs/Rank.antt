@@ -16,13 +16,14 @@ use native.Mathlib.Nat.{suc-mul, mul-le-mul-right}
 use native.Mathlib.Decide.{ℕ-discrete}
 use native.Mathlib.Omega.{arith}
 use lib.ListN.{length}
-use Rattle.tcc.specs.Sets.{any}
+use Rattle.laws.specs.Sets.{any}
+use Rattle.laws.proofs.Booleans.{true-is-false}
+use Rattle.laws.proofs.Sets.{Within, on-cons}
 use Rattle.tcc.specs.Score.{Score, agentAt, rootOf}
 use Rattle.tcc.specs.Lawful.{Lawful}
 use Rattle.tcc.specs.Unguarded.{procedure, sameMet, metFrom}
 use Rattle.tcc.specs.declared.Agent.{Agent}
 use Rattle.tcc.specs.declared.Agent.the-variants.{Skip, Abort, Tell, Parallel, When, Next, Unless, Call}
-use Rattle.tcc.proofs.Sets.{Within, on-cons, true-is-false}
 use Rattle.tcc.proofs.Closure.{any-same, same-any}
 use Rattle.tcc.proofs.Multiset.{part-lower, call-known, root-below}
 use Rattle.tcc.proofs.Unguarded.{Comes, comes-first, comes-second, comes-body, comes-call, comes-on, comes-reaches, met-decides, met-comes, comes-met}

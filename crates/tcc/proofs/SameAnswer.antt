@@ -8,12 +8,13 @@ use mathlib.Core.Path.{_≡_, refl, sym, _∙_}
 use mathlib.Core.Bool.{Bool, true, false}
 use mathlib.Core.List.{List, List·Memᴰ}
 use Prim.Native.Nat.{ℕ}
-use Rattle.tcc.specs.Sets.{Same, any, has}
+use Rattle.laws.specs.Sets.{Same, any, has}
+use Rattle.laws.proofs.Booleans.{true-is-false}
+use Rattle.laws.proofs.Sets.{any-some, some-any, has-member, member-has, same-refl, same-sym, same-trans}
 use Rattle.tcc.specs.Score.{Score, agentAt}
 use Rattle.tcc.specs.Instant.{live, held, liveIn, heldIn, isAbort, reached, Answer, abortedAnswer, instant}
 use Rattle.tcc.specs.FixedPoint.{Closed, Sound, Marked, Settled}
 use Rattle.tcc.specs.declared.Agent.the-variants.{Abort}
-use Rattle.tcc.proofs.Sets.{true-is-false, any-some, some-any, has-member, member-has, same-refl, same-sym, same-trans}
 use Rattle.tcc.proofs.FixedPoint.{Reached, live-in, held-in, in-live, in-held, is-abort, reached-least, reach, settles, aborts}
 
 pub record SameAnswer (a b : Answer) : Type 0 where

@@ -17,7 +17,8 @@ use Prim.Native.Nat.{ℕ, zero, suc, _+_, _<_}
 use native.Mathlib.Omega.{arith}
 use lib.ListN.{length}
 use lib.Dec.{eqb}
-use Rattle.tcc.specs.Sets.{Same, has}
+use Rattle.laws.specs.Sets.{Same, has}
+use Rattle.laws.proofs.Sets.{Within, Among, member-has, not-has, same-refl, same-sym, same-trans}
 use Rattle.tcc.specs.Score.{Score, agentAt, rootOf}
 use Rattle.tcc.specs.Lawful.{Lawful}
 use Rattle.tcc.specs.Store.{Closes}
@@ -27,7 +28,6 @@ use Rattle.tcc.specs.WeightBound.{ItemsBelow}
 use Rattle.tcc.specs.SameCopies.{copiesOf, SameCopies}
 use Rattle.tcc.specs.declared.Agent.{Agent}
 use Rattle.tcc.specs.declared.Agent.the-variants.{Skip, Abort, Tell, Parallel, When, Next, Unless, Call}
-use Rattle.tcc.proofs.Sets.{Within, Among, member-has, not-has, same-refl, same-sym, same-trans}
 use Rattle.tcc.proofs.Order.{pick-member, order-ran, Stuck}
 use Rattle.tcc.proofs.Multiset.{summed, summed-none, summed-one, pick-summed, step-below, start-below}
 use Rattle.tcc.proofs.Confluence.{confluence}

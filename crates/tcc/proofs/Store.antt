@@ -8,10 +8,10 @@ use mathlib.Core.Path.{refl, subst}
 use mathlib.Core.List.{List, [], _∷_, List·Memᴰ, List·Memᴰ·head, Memᴰ·append-left, Memᴰ·append-right}
 use Prim.Native.Nat.{ℕ, _<_}
 use lib.Dec.{eqb}
-use Rattle.tcc.specs.Sets.{below}
+use Rattle.laws.specs.Sets.{below}
+use Rattle.laws.proofs.Sets.{Within, Among, on-cons, on-append, on-map, map-member, below-lt, lt-below}
 use Rattle.tcc.specs.Score.{Score}
 use Rattle.tcc.specs.Store.{Derived, told, by-rule, by-clash, Closes, storeRules, closure}
-use Rattle.tcc.proofs.Sets.{Within, Among, on-cons, on-append, on-map, map-member, below-lt, lt-below}
 use Rattle.tcc.proofs.Closure.{Passes, Follows, close-above, close-closed, close-least, eqb-decides}
 
 module _ (sc : Score) where

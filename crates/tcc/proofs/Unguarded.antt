@@ -19,13 +19,14 @@ use Prim.Native.Nat.{ℕ, zero, suc, _+_, _<_}
 use native.Mathlib.Omega.{arith}
 use lib.ListN.{length, getD}
 use borrow.Author.Tests.{eqb-true, eq-eqb}
-use Rattle.tcc.specs.Sets.{below}
+use Rattle.laws.specs.Sets.{below}
+use Rattle.laws.proofs.Booleans.{true-is-false}
+use Rattle.laws.proofs.Sets.{Within, on-cons, on-append, on-map, map-member, lt-below}
 use Rattle.tcc.specs.Closure.{Rule}
 use Rattle.tcc.specs.Score.{Score, agentAt, rootOf, proceduresOf}
 use Rattle.tcc.specs.Unguarded.{Leads, calls, by-first, by-second, by-body, Reaches, one, more, Met, agent, procedure, sameMet, from, ways, waysFrom, wayRules, metFrom, circular}
 use Rattle.tcc.specs.declared.Agent.{Agent}
 use Rattle.tcc.specs.declared.Agent.the-variants.{Skip, Abort, Tell, Parallel, When, Next, Unless, Call}
-use Rattle.tcc.proofs.Sets.{Within, on-cons, on-append, on-map, map-member, lt-below, true-is-false}
 use Rattle.tcc.proofs.Closure.{Decides, Passes, Follows, any-same, same-any, close-above, close-closed, close-least}
 
 pub data Comes (sc : Score) (i : ℕ) : ℕ → Type 0 where

@@ -5,12 +5,12 @@ use mathlib.Core.Path.{_≡_, refl}
 use mathlib.Core.List.{List·Memᴰ·head, List·Memᴰ·tail}
 use Prim.Native.Nat.{ℕ}
 use native.Mathlib.Omega.{arith}
+use Rattle.laws.proofs.Sets.{Within}
 use Rattle.tcc.specs.Score.{Score, rootOf}
 use Rattle.tcc.specs.Weight.{weighs, weightWithin}
 use Rattle.tcc.specs.WeightBound.{OneWeight}
 use Rattle.tcc.specs.declared.Agent.{Agent}
 use Rattle.tcc.specs.declared.Agent.the-variants.{Skip, Abort, Tell, Parallel, When, Next, Unless, Call}
-use Rattle.tcc.proofs.Sets.{Within}
 use Rattle.tcc.proofs.Rank.{needs, unfolded-solves, solution-unfolded}
 
 weighs-agrees : (sc : Score) (v w : ℕ → ℕ) (a : Agent) → Within (λ b. v b ≡ w b) (needs sc a) → weighs sc v a ≡ weighs sc w a

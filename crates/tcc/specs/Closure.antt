@@ -7,7 +7,7 @@ use mathlib.Core.Bool.{Bool, true, false}
 use mathlib.Core.List.{List, [], _∷_}
 use Prim.Native.Nat.{ℕ, zero, suc}
 use lib.ListN.{length}
-use Rattle.tcc.specs.Sets.{any, every}
+use Rattle.laws.specs.Sets.{any, every}
 
 pub record Rule (A : Type 0) : Type 0 where
   pub premises : List A

@@ -8,7 +8,7 @@ use mathlib.Core.Path.{_≡_}
 use mathlib.Core.List.{List, [], List·Memᴰ}
 use Prim.Native.Nat.{ℕ, _<_}
 use lib.ListN.{length}
-use Rattle.tcc.specs.Sets.{Same}
+use Rattle.laws.specs.Sets.{Same}
 use Rattle.tcc.specs.Score.{Score}
 use Rattle.tcc.specs.Store.{Closes}
 use Rattle.tcc.specs.Order.{Item, agent, End, aborted, left, Order, Quiet, Finished, awakeNext, start}

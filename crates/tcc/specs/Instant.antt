@@ -15,7 +15,7 @@ use mathlib.Core.List.{List, [], _∷_, _++_, map}
 use Prim.Native.Nat.{ℕ, zero, suc, _+_, _-_}
 use lib.ListN.{length}
 use lib.Dec.{eqb}
-use Rattle.tcc.specs.Sets.{below, keep, any, has}
+use Rattle.laws.specs.Sets.{below, keep, any, has}
 use Rattle.tcc.specs.Closure.{Rule, close}
 use Rattle.tcc.specs.Score.{Score, agentAt, rootOf}
 use Rattle.tcc.specs.Store.{storeRules}

@@ -1,4 +1,3 @@
-pub mod Sets
 pub mod Closure
 pub mod Score
 pub mod Unguarded

@@ -7,7 +7,7 @@ use mathlib.Core.Path.{_≡_}
 use mathlib.Core.List.{List, [], _∷_, _++_, map, List·Memᴰ}
 use Prim.Native.Nat.{ℕ, _<_}
 use lib.Dec.{eqb}
-use Rattle.tcc.specs.Sets.{below}
+use Rattle.laws.specs.Sets.{below}
 use Rattle.tcc.specs.Closure.{Rule, close}
 use Rattle.tcc.specs.Score.{Score}
 

@@ -8,7 +8,7 @@ use mathlib.Core.List.{List, [], _∷_, _++_, map}
 use Prim.Native.Nat.{ℕ, zero, suc}
 use lib.ListN.{length}
 use lib.Dec.{eqb}
-use Rattle.tcc.specs.Sets.{any, below}
+use Rattle.laws.specs.Sets.{any, below}
 use Rattle.tcc.specs.Closure.{Rule, close}
 use Rattle.tcc.specs.Score.{Score, agentAt, rootOf}
 use Rattle.tcc.specs.declared.Agent.{Agent}

@@ -7,7 +7,7 @@ use mathlib.Core.Bool.{Bool, true, false, cond, _||_}
 use mathlib.Core.List.{List, [], _∷_}
 use Prim.Native.Nat.{ℕ, _+_}
 use lib.Dec.{leb, ltb}
-use Rattle.tcc.specs.Sets.{any}
+use Rattle.laws.specs.Sets.{any}
 use Rattle.tcc.specs.Score.{tokensOf, partsOf, proceduresOf}
 use Rattle.words.specs.Word.{field}
 use Rattle.format.specs.declared.Sizes.{Sizes}

@@ -1,5 +1,5 @@
 -- `bits::any_from`: found says whether a flag is set below i.
-use Rattle.store.specs.Flags.{setOf}
+use Rattle.laws.specs.Sets.{any, below}
 use native.Mathlib.Numerals.{add-one}
 use borrow.Author.Tests.{lt-leb, le-leb}
 use mathlib.Core.Path.{_≡_, sym, ap, _∙_, ap₂}
@@ -9,8 +9,8 @@ use borrow.Author.Needs.{needs}
 use native.Mathlib.Omega.{arith}
 use lib.Dec.{leb}
 use lib.ListN.{length, getD, List·getD-eq-default}
-use Rattle.tcc.specs.Sets.{any, below}
-use Rattle.bits.proofs.Any.{any-more, any-none, any-keep, any-beyond}
+use Rattle.laws.proofs.Any.{any-more, any-none, any-keep, any-beyond}
+use Rattle.store.specs.Flags.{setOf}
 use Rattle.bits.proofs.any_from.Statement.{statement}
 use Rattle.bits.proofs.any_from.Tie as tie
 

@@ -5,7 +5,7 @@ use borrow.Author.Needs.{needs}
 use native.Mathlib.Omega.{arith}
 use lib.Dec.{eqb}
 use lib.ListN.{length, length-set}
-use Rattle.bits.specs.Bits.{Spread}
+use Rattle.bits.specs.Spread.{Spread}
 use Rattle.bits.proofs.Filled.{spread-none, spread-more}
 use Rattle.bits.proofs.spread.Statement.{statement}
 use Rattle.bits.proofs.spread.Tie as tie

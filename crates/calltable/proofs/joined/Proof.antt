@@ -6,7 +6,7 @@ use borrow.Author.Needs.{needs}
 use native.Mathlib.Nat.{not-suc-le-zero}
 use native.Mathlib.Omega.{arith}
 use lib.ListN.{length, length-set, getD}
-use Rattle.calltable.proofs.Fill.{filled-more}
+use Rattle.laws.proofs.Lists.{filled-more}
 use Rattle.calltable.proofs.joined.Statement.{statement}
 use Rattle.calltable.proofs.joined.Tie as tie
 

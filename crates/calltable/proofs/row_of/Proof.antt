@@ -10,8 +10,8 @@ use lib.Dec.{eqb}
 use lib.ListN.{length, length-set, getD, replicate, getD-replicate, List·getD-eq-default}
 use lib.Pow.{shr-shr}
 use lib.Seq.{getD-set-other}
+use Rattle.laws.proofs.Lists.{filled-more}
 use Rattle.calltable.specs.Calls.{inSet}
-use Rattle.calltable.proofs.Fill.{filled-more}
 use Rattle.calltable.proofs.row_of.Statement.{statement}
 use Rattle.calltable.proofs.row_of.Tie as tie
 

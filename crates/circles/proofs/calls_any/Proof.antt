@@ -10,7 +10,7 @@ use lib.ListN.{length, getD}
 use Rattle.tcc.specs.Score.{rootOf}
 use Rattle.format.specs.Decode.{sizes, decode}
 use Rattle.format.proofs.Decode.{decode-roots, sizes-few}
-use Rattle.faults.specs.Faults.{Faultless}
+use Rattle.faults.specs.Faultless.{Faultless}
 use Rattle.faults.proofs.Accepted.{roots-known}
 use Rattle.circles.proofs.Circle.{calls-known, roots-below, call-here, calls-none}
 use Rattle.circles.proofs.calls_any.Statement.{statement}

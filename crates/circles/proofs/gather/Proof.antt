@@ -6,13 +6,13 @@ use borrow.Author.Needs.{needs}
 use native.Mathlib.Nat.{not-suc-le-zero}
 use native.Mathlib.Omega.{arith}
 use lib.ListN.{length, length-set, getD}
+use Rattle.laws.proofs.Lists.{filled-more}
 use Rattle.tcc.specs.Score.{partsOf, proceduresOf}
 use Rattle.tcc.specs.Unguarded.{Leads}
 use Rattle.format.specs.Decode.{decode}
-use Rattle.calltable.specs.Calls.{Exactly, inSet, leadsBy}
-use Rattle.faults.proofs.Accepted.{parts-lower, procedures-known}
 use Rattle.format.proofs.Decode.{sizes-few}
-use Rattle.calltable.proofs.Fill.{filled-more}
+use Rattle.faults.proofs.Accepted.{parts-lower, procedures-known}
+use Rattle.calltable.specs.Calls.{Exactly, inSet, leadsBy}
 use Rattle.calltable.proofs.Leads.{leads-exact}
 use Rattle.circles.proofs.gather.Statement.{statement}
 use Rattle.circles.proofs.gather.Tie as tie

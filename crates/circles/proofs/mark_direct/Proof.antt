@@ -7,13 +7,13 @@ use borrow.Author.Needs.{needs}
 use native.Mathlib.Nat.{not-suc-le-zero}
 use native.Mathlib.Omega.{arith}
 use lib.ListN.{length, length-set, getD}
+use Rattle.laws.proofs.Lists.{filled-more}
 use Rattle.tcc.specs.Score.{rootOf}
 use Rattle.tcc.specs.Unguarded.{Leads}
 use Rattle.format.specs.Decode.{sizes, decode}
-use Rattle.calltable.specs.Calls.{Exactly, inSet}
-use Rattle.faults.proofs.Accepted.{roots-known}
 use Rattle.format.proofs.Decode.{decode-roots, sizes-few}
-use Rattle.calltable.proofs.Fill.{filled-more}
+use Rattle.faults.proofs.Accepted.{roots-known}
+use Rattle.calltable.specs.Calls.{Exactly, inSet}
 use Rattle.circles.proofs.mark_direct.Statement.{statement}
 use Rattle.circles.proofs.mark_direct.Tie as tie
 

@@ -5,8 +5,8 @@ use mathlib.Core.List.{[], _∷_, List·Memᴰ·head}
 use Prim.Native.Nat.{_+_, _-_, _<_, _≤_}
 use native.Mathlib.Omega.{arith}
 use lib.ListN.{getD}
+use Rattle.laws.proofs.Booleans.{true-is-false}
 use Rattle.tcc.specs.Instant.{isAbort, reducible, leaves}
-use Rattle.tcc.proofs.Sets.{true-is-false}
 use Rattle.format.specs.Decode.{decode}
 use Rattle.store.specs.Flags.{setOf}
 use Rattle.store.proofs.Known.{agents-all, agents-few, token-few, part-lower, flag-has}

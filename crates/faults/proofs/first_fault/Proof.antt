@@ -6,8 +6,8 @@ use native.Mathlib.Omega.{arith}
 use lib.ListN.{length, drop}
 use Rattle.words.specs.Word.{words}
 use Rattle.verdicts.specs.Verdicts.{orElse}
-use Rattle.faults.specs.Faults.{wordVerdict, firstFault}
 use Rattle.verdicts.proofs.Verdicts.{orElse-accepted, orElse-refused}
+use Rattle.faults.specs.Faults.{wordVerdict, firstFault}
 use Rattle.faults.proofs.Faults.{fault-step, fault-end}
 use Rattle.faults.proofs.first_fault.Statement.{statement}
 use Rattle.faults.proofs.first_fault.Tie as tie

@@ -6,8 +6,8 @@ use Prim.Native.Nat.{ℕ, _<_}
 use native.Mathlib.Omega.{arith}
 use lib.ListN.{set, replicate}
 use Rattle.format.specs.Decode.{sizes}
-use Rattle.format.proofs.Decode.{decode-roots, sizes-few}
 use Rattle.format.specs.Playable.{Playable}
+use Rattle.format.proofs.Decode.{decode-roots, sizes-few}
 use Rattle.history.proofs.Starts.{root-known, started}
 use Rattle.history.proofs.start.Statement.{statement}
 use Rattle.history.proofs.start.Tie as tie

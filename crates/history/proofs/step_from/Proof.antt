@@ -2,10 +2,10 @@
 use mathlib.Core.Path.{refl}
 use borrow.Author.Needs.{needs}
 use lib.Dec.{leb}
-use Rattle.tcc.specs.Sets.{any}
+use Rattle.laws.specs.Sets.{any}
+use Rattle.scorefile.proofs.Stages.{by-head}
 use Rattle.store.specs.Flags.{setOf}
 use Rattle.standing.specs.Standing.{stateIn}
-use Rattle.scorefile.proofs.Stages.{by-head}
 use Rattle.history.proofs.FromStanding.{stepped}
 use Rattle.history.proofs.step_from.Statement.{statement}
 use Rattle.history.proofs.step_from.Tie as tie

@@ -1,34 +1,30 @@
 -- `call`: each test in the order of the table, then the answer.
 use mathlib.Core.Path.{_≡_, refl, sym, ap, ap₂, subst⁻¹, _∙_}
 use mathlib.Core.Bool.{false, true≢false}
-use Prim.Native.Nat.{ℕ, _<_, _≤_}
 use borrow.Author.Needs.{needs}
 use native.Mathlib.Omega.{arith}
 use lib.Dec.{leb}
 use lib.ListN.{length, getD, replicate}
-use Rattle.tcc.specs.Sets.{any}
+use Rattle.laws.specs.Sets.{any}
+use Rattle.laws.proofs.Sets.{none-above}
 use Rattle.tcc.specs.Instant.{Answer, answer}
-use Rattle.words.proofs.Words.{words-length}
 use Rattle.format.specs.Decode.{sizes, decode}
+use Rattle.format.specs.Playable.{Playable}
 use Rattle.format.proofs.Decode.{decode-tokens, sizes-few, playable-agents}
 use Rattle.verdicts.specs.Verdicts.{numberOf}
 use Rattle.scorefile.specs.Check.{verdict}
-use Rattle.verdicts.proofs.Verdicts.{accepted-only}
-use Rattle.faults.proofs.Accepted.{none-above}
 use Rattle.scorefile.proofs.Stages.{head-read, by-head}
 use Rattle.scorefile.proofs.Stages as stages
-use Rattle.store.specs.Flags.{setOf, flagsOf}
-use Rattle.format.specs.Playable.{Playable}
+use Rattle.store.specs.Flags.{setOf}
 use Rattle.engine.specs.Outcome.{outcomeOf}
-use Rattle.bits.specs.Bits.{bytesOf}
+use Rattle.bits.proofs.Filled.{none-from, from-none}
 use Rattle.lent.specs.Maps.{tokensIn}
 use Rattle.lent.specs.States.{stateFault, stateOf, LawfulState}
-use Rattle.bits.proofs.Filled.{none-from, from-none}
 use Rattle.lent.proofs.Round.{faultless-lawful}
 use Rattle.lent.proofs.Tokens.{tokens-set}
+use Rattle.standing.proofs.Inside.{Inside, answer-inside, next-lawful, flags-known}
 use Rattle.instant.specs.InstantCall.{Lent, lent, lengthFault, tokenFault}
 use Rattle.instant.proofs.Exits.{turned, lengths, state, input, settled, Lengths-are, right-lengths, handed}
-use Rattle.standing.proofs.Inside.{Inside, answer-inside, next-lawful, flags-known}
 use Rattle.instant.proofs.call.Statement.{statement}
 use Rattle.instant.proofs.call.Tie as tie
 

@@ -1,15 +1,15 @@
 -- `hand_over`: each buffer by its writer.
-use mathlib.Core.Path.{_≡_, ap, _∙_}
+use mathlib.Core.Path.{ap, _∙_}
 use mathlib.Core.Bool.{false}
 use mathlib.Core.List.{_∷_, List·Memᴰ}
-use Prim.Native.Nat.{ℕ, _<_, _≤_}
+use Prim.Native.Nat.{ℕ, _<_}
 use borrow.Author.Needs.{needs}
 use native.Mathlib.Omega.{arith}
 use lib.ListN.{getD}
 use Rattle.tcc.specs.Instant.{output}
 use Rattle.format.specs.Decode.{decode}
 use Rattle.format.proofs.Decode.{decode-tokens}
-use Rattle.store.specs.Flags.{setOf, flagsOf}
+use Rattle.store.specs.Flags.{setOf}
 use Rattle.bits.specs.Bits.{bytesOf}
 use Rattle.lent.specs.Maps.{mapOf}
 use Rattle.lent.specs.States.{agentWords}

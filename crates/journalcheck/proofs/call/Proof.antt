@@ -5,13 +5,12 @@ use native.Mathlib.Omega.{arith}
 use mathlib.Core.Bool.{true}
 use lib.ListN.{replicate}
 use Rattle.format.specs.Decode.{sizes}
+use Rattle.format.specs.Playable.{Playable}
 use Rattle.verdicts.specs.Verdicts.{numberOf}
 use Rattle.scorefile.specs.Check.{verdict}
-use Rattle.verdicts.proofs.Verdicts.{accepted-only}
-use Rattle.form.specs.Form.{formOf}
 use Rattle.scorefile.proofs.Stages.{head-read, by-head}
 use Rattle.scorefile.proofs.Stages as stages
-use Rattle.format.specs.Playable.{Playable}
+use Rattle.form.specs.Form.{formOf}
 use Rattle.journalcheck.proofs.CheckExits.{turned, lengths, not-whole, against, read}
 use Rattle.journalcheck.proofs.call.Statement.{statement}
 use Rattle.journalcheck.proofs.call.Tie as tie

@@ -9,7 +9,6 @@ use Rattle.format.specs.Decode.{sizes}
 use Rattle.format.proofs.Decode.{sizes-few}
 use Rattle.store.specs.Flags.{setOf}
 use Rattle.standing.specs.Standing.{stateIn}
-use Rattle.parts.specs.Instants.{inputsIn}
 use Rattle.history.proofs.FromStanding.{told-set, status-few}
 use Rattle.history.proofs.FromStanding as from
 use Rattle.journalcheck.proofs.Others.{formed-wide}

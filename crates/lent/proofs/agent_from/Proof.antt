@@ -5,7 +5,7 @@ use Prim.Native.Nat.{_*_, _-_, _≤_}
 use borrow.Author.Needs.{needs}
 use native.Mathlib.Omega.{arith}
 use lib.Dec.{leb}
-use Rattle.tcc.specs.Sets.{any, below}
+use Rattle.laws.specs.Sets.{any, below}
 use Rattle.words.proofs.Words.{words-length}
 use Rattle.lent.proofs.Agents.{awakeIn, agents-from, found-more}
 use Rattle.lent.proofs.agent_from.Statement.{statement}

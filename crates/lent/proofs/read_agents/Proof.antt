@@ -1,5 +1,5 @@
 -- `lent::read_agents`: the flags below 32 k are set.
-use Rattle.bits.specs.Bits.{Spread}
+use Rattle.words.proofs.Words.{words-length}
 use mathlib.Core.List.{List}
 use mathlib.Core.Bool.{Bool}
 use mathlib.Core.Path.{_≡_, refl, subst, subst⁻¹}
@@ -8,7 +8,7 @@ use Prim.Native.Nat.{_*_, _-_, _≤_, _+_}
 use borrow.Author.Needs.{needs}
 use native.Mathlib.Omega.{arith}
 use lib.ListN.{length}
-use Rattle.words.proofs.Words.{words-length}
+use Rattle.bits.specs.Spread.{Spread}
 use Rattle.bits.proofs.Filled.{Upto, upto-none, spread-zero}
 use Rattle.lent.proofs.Agents.{awakeIn, agents-flags, agents-more}
 use Rattle.lent.proofs.read_agents.Statement.{statement}

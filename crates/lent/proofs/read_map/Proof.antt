@@ -1,8 +1,8 @@
 -- `lent::read_map`: the flags below 8 k are set.
-use Rattle.bits.specs.Bits.{Spread}
+use Rattle.words.specs.Map.{inMap}
 use mathlib.Core.List.{List}
 use mathlib.Core.Bool.{Bool}
-use Rattle.lent.proofs.Tokens.{tokens-flags, tokens-more}
+use Rattle.bits.specs.Spread.{Spread}
 use mathlib.Core.Path.{_≡_, refl, subst, subst⁻¹}
 use mathlib.Core.Logic.{⊎-elim}
 use Prim.Native.Nat.{_*_, _-_, _≤_, _+_}
@@ -10,7 +10,7 @@ use borrow.Author.Needs.{needs}
 use native.Mathlib.Omega.{arith}
 use lib.ListN.{length}
 use Rattle.bits.proofs.Filled.{Upto, upto-none, spread-zero}
-use Rattle.words.specs.Map.{inMap}
+use Rattle.lent.proofs.Tokens.{tokens-flags, tokens-more}
 use Rattle.lent.proofs.read_map.Statement.{statement}
 use Rattle.lent.proofs.read_map.Tie as tie
 

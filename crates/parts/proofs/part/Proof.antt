@@ -4,7 +4,7 @@ use Prim.Native.Nat.{_-_}
 use native.Mathlib.Omega.{arith}
 use lib.ListN.{length, drop, length-drop}
 use lib.Seq.{take-all}
-use Rattle.parts.specs.Instants.{partFrom}
+use Rattle.parts.specs.Parts.{partFrom}
 use Rattle.parts.proofs.Parts.{part-on, part-off, part-past, part-bytes, part-word}
 use borrow.Author.Needs.{needs}
 use Rattle.parts.proofs.part.Statement.{statement}

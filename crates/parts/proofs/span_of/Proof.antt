@@ -7,7 +7,7 @@ use lib.ListN.{length}
 use Rattle.words.specs.Word.{words}
 use Rattle.words.proofs.Words.{words-length}
 use Rattle.form.specs.Form.{isInstant}
-use Rattle.parts.specs.Instants.{span}
+use Rattle.parts.specs.Parts.{span}
 use Rattle.parts.proofs.Parts.{spanFrom, span-first, span-more, span-here, span-end}
 use Rattle.parts.proofs.span_of.Statement.{statement}
 use Rattle.parts.proofs.span_of.Tie as tie

@@ -1,6 +1,6 @@
 -- `play`: the run from the start state.
-use Rattle.playing.proofs.Played.{played}
 use Rattle.run.specs.RunCall.{lent}
+use Rattle.playing.proofs.Played.{played}
 use borrow.Author.Needs.{needs}
 use Rattle.playing.proofs.play.Statement.{statement}
 use Rattle.playing.proofs.play.Tie as tie

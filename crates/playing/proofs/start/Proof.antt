@@ -2,10 +2,9 @@
 use mathlib.Core.Path.{_≡_, refl, ap, _∙_}
 use borrow.Author.Needs.{needs}
 use Rattle.verdicts.specs.Verdicts.{numberOf}
-use Rattle.verdicts.proofs.Verdicts.{accepted-only}
+use Rattle.scorefile.proofs.Stages.{accepted, playable}
 use Rattle.playing.proofs.start.Statement.{statement}
 use Rattle.playing.proofs.start.Tie as tie
-use Rattle.scorefile.proofs.Stages.{accepted, playable}
 
 check-requires : tie.Need-check-requires
 check-requires c κs = search needs

@@ -5,12 +5,11 @@ use native.Mathlib.Omega.{arith}
 use lib.ListN.{replicate}
 use mathlib.Core.Bool.{false}
 use Rattle.format.specs.Decode.{sizes}
+use Rattle.format.specs.Playable.{Playable}
 use Rattle.verdicts.specs.Verdicts.{numberOf}
 use Rattle.scorefile.specs.Check.{verdict}
-use Rattle.verdicts.proofs.Verdicts.{accepted-only}
 use Rattle.scorefile.proofs.Stages.{head-read, by-head}
 use Rattle.scorefile.proofs.Stages as stages
-use Rattle.format.specs.Playable.{Playable}
 use Rattle.lent.specs.States.{stateFault}
 use Rattle.form.specs.Form.{formOf}
 use Rattle.run.specs.RunCall.{Lent, lent, lengthFault}

@@ -1,6 +1,5 @@
 -- `keep`: by whether an instant was written.
-use mathlib.Core.Path.{ap, sym, _∙_}
-use mathlib.Core.Bool.{cond}
+use mathlib.Core.Path.{sym, _∙_}
 use borrow.Author.Needs.{needs}
 use borrow.Author.Tests.{eq-eqb, ne-eqb}
 use Rattle.run.proofs.keep.Statement.{statement}

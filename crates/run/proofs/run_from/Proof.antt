@@ -8,8 +8,8 @@ use Rattle.standing.specs.Standing.{stateIn}
 use Rattle.standing.proofs.Standings.{standing-state}
 use Rattle.parts.specs.Instants.{inputLists}
 use Rattle.runlist.specs.Run.{runFrom}
-use Rattle.run.specs.RunCall.{ending}
 use Rattle.runlist.specs.Advance.{RanTo}
+use Rattle.run.specs.RunCall.{ending}
 use borrow.Author.Needs.{needs}
 use Rattle.run.proofs.run_from.Statement.{statement}
 use Rattle.run.proofs.run_from.Tie as tie

@@ -1,28 +1,28 @@
 -- `run_list`: the run half way.
-use mathlib.Core.Path.{_≡_, refl, sym, ap, ap₂, subst, _∙_}
-use mathlib.Core.Bool.{Bool, true, false}
-use mathlib.Core.List.{List, _∷_, _++_}
-use Prim.Native.Nat.{ℕ, _+_, _*_, _-_, _<_, _≤_}
+use mathlib.Core.Path.{_≡_, refl, sym, ap, subst, _∙_}
+use mathlib.Core.Bool.{true, false}
+use mathlib.Core.List.{List, _∷_}
+use Prim.Native.Nat.{ℕ, _+_, _-_, _≤_}
 use borrow.Author.Needs.{needs}
 use native.Mathlib.Omega.{arith}
 use borrow.Rule.Slice.PartMut.{putMid, same-len-mid}
 use lib.ListN.{length, getD, take, drop, length-drop}
 use Rattle.tcc.specs.Instant.{answer, after}
+use Rattle.words.specs.Word.{words}
 use Rattle.format.specs.Decode.{sizes, decode}
 use Rattle.format.proofs.Decode.{decode-tokens}
-use Rattle.words.specs.Word.{words}
 use Rattle.store.specs.Flags.{setOf}
 use Rattle.lent.specs.States.{stateOf, asBytes, LawfulState, SameState}
 use Rattle.lent.proofs.Round.{state-round}
 use Rattle.standing.specs.Standing.{stateIn}
-use Rattle.standing.proofs.Inside.{flags-known, after-lawful}
+use Rattle.standing.proofs.Inside.{after-lawful}
 use Rattle.parts.specs.Instants.{inputsIn, inputLists}
-use Rattle.runlist.specs.Run.{goesOn, runFrom}
-use Rattle.runlist.specs.Advance.{RanTo}
 use Rattle.history.proofs.FromStanding.{inside}
 use Rattle.history.proofs.FromStanding as from
-use Rattle.runlist.proofs.Took.{goes-not, not-goes, took-fits}
 use Rattle.history.proofs.Reading.{Reading, reading-none, Next, reading-next, reading-end}
+use Rattle.runlist.specs.Run.{goesOn, runFrom}
+use Rattle.runlist.specs.Advance.{RanTo}
+use Rattle.runlist.proofs.Took.{goes-not, not-goes, took-fits}
 use Rattle.runlist.proofs.Runs.{Half, room-is, put-back, half-none, half-more, half-stopped, half-ended}
 use Rattle.runlist.proofs.run_list.Statement.{statement}
 use Rattle.runlist.proofs.run_list.Tie as tie

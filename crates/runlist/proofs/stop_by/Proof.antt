@@ -1,10 +1,6 @@
 -- `stop_by`: by the two tests, in turn.
-use mathlib.Core.Path.{ap, sym, _∙_}
-use mathlib.Core.Bool.{cond}
 use native.Mathlib.Omega.{arith}
 use borrow.Author.Tests.{le-leb, lt-leb}
-use Rattle.runlist.specs.declared.Stop.the-variants.{Not, Next, Room}
-use Rattle.runlist.specs.Run.{stopBy}
 use Rattle.runlist.proofs.stop_by.Statement.{statement}
 use Rattle.runlist.proofs.stop_by.Tie as tie
 

@@ -1,8 +1,8 @@
 -- `score_check`: the verdict, packed.
 use mathlib.Core.Path.{ap, _∙_}
 use Rattle.verdicts.specs.Verdicts.{numberOf, valueOf}
-use Rattle.scorefile.specs.Check.{verdict}
 use Rattle.verdicts.proofs.Verdicts.{number-few}
+use Rattle.scorefile.specs.Check.{verdict}
 use Rattle.scorefile.proofs.Values.{verdict-small}
 use Rattle.answer.specs.Answer.{packed}
 use Rattle.answer.specs.Replies.{ofVerdict}

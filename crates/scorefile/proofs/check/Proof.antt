@@ -7,16 +7,16 @@ use native.Mathlib.Omega.{arith}
 use lib.ListN.{length, drop}
 use Rattle.words.specs.Word.{words, wordAt}
 use Rattle.words.proofs.Words.{words-length}
-use Rattle.verdicts.specs.declared.Verdict.{Verdict}
 use Rattle.format.specs.Format.{sizesOf}
 use Rattle.format.specs.Decode.{sizes, decode}
+use Rattle.format.proofs.Decode.{sizes-few}
+use Rattle.verdicts.specs.declared.Verdict.{Verdict}
 use Rattle.verdicts.specs.Verdicts.{numberOf, orElse}
+use Rattle.verdicts.proofs.Verdicts.{accepted-only, orElse-accepted, orElse-refused}
 use Rattle.faults.specs.Faults.{lengthVerdict, headVerdict, countVerdict, firstFault}
+use Rattle.faults.proofs.Accepted.{length-accepted, count-accepted}
 use Rattle.circles.specs.Circles.{circleFrom}
 use Rattle.scorefile.specs.Check.{verdict}
-use Rattle.verdicts.proofs.Verdicts.{accepted-only, orElse-accepted, orElse-refused}
-use Rattle.faults.proofs.Accepted.{length-accepted, count-accepted}
-use Rattle.format.proofs.Decode.{sizes-few}
 use Rattle.scorefile.proofs.check.Statement.{statement}
 use Rattle.scorefile.proofs.check.Tie as tie
 

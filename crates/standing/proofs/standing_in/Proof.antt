@@ -1,5 +1,5 @@
 -- `standing_in`: by word 0 of the state.
-use mathlib.Core.Path.{_≡_, ap₂}
+use mathlib.Core.Path.{ap₂}
 use mathlib.Core.Bool.{Bool, not}
 use mathlib.Core.List.{List}
 use Prim.Native.Nat.{ℕ}
@@ -8,7 +8,6 @@ use native.Mathlib.Omega.{arith}
 use lib.Dec.{eqb}
 use Rattle.words.proofs.Words.{words-length}
 use Rattle.lent.specs.States.{abortedWord}
-use Rattle.standing.specs.declared.Standing.{Standing}
 use Rattle.standing.specs.Standing.{standingIn}
 use Rattle.standing.proofs.standing_in.Statement.{statement}
 use Rattle.standing.proofs.standing_in.Tie as tie

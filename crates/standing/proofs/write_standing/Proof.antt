@@ -1,12 +1,12 @@
 -- `write_standing`: by whether the score is running.
 use mathlib.Core.Path.{_≡_, refl, sym, ap, subst, _∙_}
 use mathlib.Core.Bool.{Bool, true, false, cond}
-use mathlib.Core.List.{List, [], _∷_}
+use mathlib.Core.List.{[], _∷_}
 use Prim.Native.Nat.{ℕ, _<_, _≤_}
 use borrow.Author.Needs.{needs}
 use native.Mathlib.Omega.{arith}
 use lib.ListN.{getD, replicate}
-use Rattle.tcc.specs.Instant.{State, running, aborted}
+use Rattle.tcc.specs.Instant.{running, aborted}
 use Rattle.store.specs.Flags.{setOf}
 use Rattle.store.proofs.Flags.{flag-member, setOf-none}
 use Rattle.engine.proofs.Outcomes.{flags-none}

@@ -11,7 +11,7 @@ use mathlib.Core.List.{List, [], _∷_, _++_}
 use Prim.Native.Nat.{ℕ, zero, suc, _+_, _-_, _<_, _≤_}
 use native.Mathlib.Nat.{add-zero, add-suc}
 use native.Mathlib.Omega.{arith}
-use Rattle.tcc.specs.Sets.{below, keep, any}
+use Rattle.laws.specs.Sets.{below, keep, any}
 
 module _ {A : Type 0} where
   any-append : (f : A → Bool) (l k : List A) → any f (l ++ k) ≡ (any f l || any f k)

@@ -1,40 +1,34 @@
 -- What the computed tests say of the members of a list.
 --     Within                          every member of a list has a property
 --     Among                           every member of a list is in another
---     true-is-false                   no test is both
---     and-both, both-and              a conjunction of tests, taken apart and put together
 --     any-some, some-any              `any` passes if and only if it passes at a member
 --     every-each, each-every          `every` passes if and only if it passes at each member
 --     has-member, member-has          `has` is membership; `not-has`, where there is none
 --     has-same                        sets with the same members pass the same test
+--     none-above                      where no member is n or more, each is below n
 --     keep-kept                       what passes the test is kept
+--     keep-append                     the kept of two lists, one after the other
+--     keep-none, keep-few, keep-more      how many are kept: none, no more than there are, no fewer by a wider test
 --     below-lt, lt-below              the members of `below n` are the numbers below n
+--     below-length, below-at          it has n entries, entry i is i
 --     on-cons, on-append, on-map, on-keep     what holds of the parts holds of every member
 --     map-member                      the images of the members are members of `map`
 --     keep-agrees                     two tests that agree on the members keep the same
 --     same-refl, same-sym, same-trans     `Same` is an equivalence
 use mathlib.Core.Path.{_≡_, refl, sym, ap, _∙_, subst}
-use mathlib.Core.Bool.{Bool, true, false, cond, _&&_, _||_, true-or, or-true}
+use mathlib.Core.Bool.{Bool, true, false, cond, _||_, true-or, or-true}
 use mathlib.Core.List.{List, [], _∷_, _++_, map, List·Memᴰ, List·Memᴰ·head, List·Memᴰ·tail, List·Memᴰ·cases-cons, List·Memᴰ·append-cases, Memᴰ·append-left, Memᴰ·append-right}
 use mathlib.Core.Logic.{⊎-elim, by-cases}
-use Prim.Native.Nat.{ℕ, zero, suc, _<_}
+use Prim.Native.Nat.{ℕ, zero, suc, _<_, _≤_}
+use native.Mathlib.Nat.{not-suc-le-zero}
 use native.Mathlib.Omega.{arith}
 use native.Mathlib.Decide.{decLt}
-use lib.Dec.{eqb}
-use borrow.Author.Tests.{eqb-true, eq-eqb}
-use Rattle.tcc.specs.Sets.{Same, below, keep, any, every, has}
-
-pub true-is-false : {b : Bool} → b ≡ true → b ≡ false → ⊥
-true-is-false {b} p q = let z : _≡_ {A = ℕ} 0 1 = cc in omega arith
-
-pub and-both : (a b : Bool) → (a && b) ≡ true → (a ≡ true) × (b ≡ true)
-and-both true true e = (refl, refl)
-and-both true false e = absurd (true-is-false e refl)
-and-both false true e = absurd (true-is-false e refl)
-and-both false false e = absurd (true-is-false e refl)
-
-pub both-and : {a b : Bool} → a ≡ true → b ≡ true → (a && b) ≡ true
-both-and {a} {b} p q = rw (p, q)
+use lib.Dec.{eqb, leb}
+use lib.ListN.{length, getD, length-append, List·getD-append}
+use lib.Seq.{getD-at}
+use borrow.Author.Tests.{eqb-true, eq-eqb, le-leb}
+use Rattle.laws.specs.Sets.{Same, below, keep, any, every, has}
+use Rattle.laws.proofs.Booleans.{true-is-false, and-both, both-and}
 
 abbrev pub Within : {A : Type 0} → (A → Type 0) → List A → Type 0
 Within {A} P l = (x : A) → List·Memᴰ x l → P x
@@ -136,3 +130,53 @@ has-same {l} {k} n h = go (has n l) refl
     go : (b : Bool) → has n l ≡ b → has n l ≡ has n k
     go true e = e ∙ sym (member-has (h n .0 (has-member n l e)))
     go false e = e ∙ sym (not-has (λ m. true-is-false (member-has (h n .1 m)) e))
+
+pub none-above : (n : ℕ) (l : List ℕ) → any (λ t. leb n t) l ≡ false → (t : ℕ) → List·Memᴰ t l → t < n
+none-above n l e t m = go (decLt t n)
+  where
+    go : Dec (t < n) → t < n
+    go (yes h) = h
+    go (no h) =
+        let le : n ≤ t = omega arith in
+        absurd (true-is-false (some-any (λ x. leb n x) m (le-leb n t le)) e)
+
+module _ {A : Type 0} (f : A → Bool) where
+  pub keep-append : (l k : List A) → keep f (l ++ k) ≡ keep f l ++ keep f k
+  keep-append [] k = refl
+  keep-append (x ∷ l) k = go (f x) (keep-append l k)
+    where
+      go : (b : Bool) → keep f (l ++ k) ≡ keep f l ++ keep f k → cond b (x ∷ keep f (l ++ k)) (keep f (l ++ k)) ≡ cond b (x ∷ keep f l) (keep f l) ++ keep f k
+      go true e = ap (λ t. x ∷ t) e
+      go false e = e
+
+  pub keep-none : (l : List A) → Within (λ x. f x ≡ false) l → keep f l ≡ []
+  keep-none [] h = refl
+  keep-none (x ∷ l) h = let p : f x ≡ false = h x (List·Memᴰ·head refl) in rw p (keep-none l (λ y m. h y (List·Memᴰ·tail m)))
+
+  pub keep-few : (l : List A) → length (keep f l) ≤ length l
+  keep-few [] = omega arith
+  keep-few (x ∷ l) = go (f x) (keep-few l)
+    where
+      go : (b : Bool) → length (keep f l) ≤ length l → length (cond b (x ∷ keep f l) (keep f l)) ≤ suc (length l)
+      go true h = omega arith
+      go false h = omega arith
+
+  pub keep-more : (g : A → Bool) (l : List A) → Within (λ x. f x ≡ true → g x ≡ true) l → length (keep f l) ≤ length (keep g l)
+  keep-more g [] h = omega arith
+  keep-more g (x ∷ l) h = go (f x) (g x) (h x (List·Memᴰ·head refl)) (keep-more g l (λ y m. h y (List·Memᴰ·tail m)))
+    where
+      go : (b c : Bool) → (b ≡ true → c ≡ true) → length (keep f l) ≤ length (keep g l) → length (cond b (x ∷ keep f l) (keep f l)) ≤ length (cond c (x ∷ keep g l) (keep g l))
+      go true true e rest = omega arith
+      go true false e rest = absurd (true-is-false (e refl) refl)
+      go false true e rest = omega arith
+      go false false e rest = rest
+
+pub below-length : (n : ℕ) → length (below n) ≡ n
+below-length zero = refl
+below-length (suc n) = omega (arith, length-append (below n) (n ∷ []), below-length n)
+
+pub below-at : (n i : ℕ) → i < n → getD (below n) i 0 ≡ i
+below-at zero i h = absurd (not-suc-le-zero h)
+below-at (suc n) i h = by-cases (decLt i n)
+    (λ l. List·getD-append (below n) (n ∷ []) 0 i (omega (arith, below-length n)) ∙ below-at n i l)
+    (λ g. let e : n ≡ i = omega arith in getD-at (below n) n [] 0 i (below-length n ∙ e) ∙ e)

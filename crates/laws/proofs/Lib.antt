@@ -1,0 +1,4 @@
+pub mod Any
+pub mod Booleans
+pub mod Lists
+pub mod Sets
