@@ -2,7 +2,7 @@
 --     turned, lengths, state, input, settled
 --     handed           an answer handed over leaves as it says
 --     Lengths-are      the five lengths, where none is wrong
-use mathlib.Core.Path.{_≡_, ap, _∙_}
+use mathlib.Core.Path.{_≡_, refl, ap, _∙_}
 use mathlib.Core.Bool.{true, false, cond, not}
 use mathlib.Core.List.{List, _∷_}
 use Prim.Native.Nat.{ℕ, _≤_}
@@ -26,40 +26,38 @@ use Rattle.lent.specs.Maps.{tokensIn, mapOf}
 use Rattle.lent.specs.States.{stateFault, stateOf, asBytes, runningWord, abortedWord, agentWords}
 use Rattle.lent.proofs.Lengths.{right}
 use Rattle.standing.proofs.Inside.{Inside}
-use Rattle.instant.specs.declared.Reply.the-variants.{Score as Turned, Lengths, State, Input, Next, Settled}
-use Rattle.instant.specs.InstantCall.{Lent, Exit, lengthFault, tokenFault, kept, answered, exit, lent, cleared, played}
+use Rattle.instant.specs.declared.Reply.the-variants.{Score as Turned, Lengths, State, Input, Settled}
+use Rattle.instant.specs.InstantCall.{Lent, Exit, lengthFault, tokenFault, kept, answered, exit, lent, played}
 use Rattle.instant.specs.HandedOver.{HandedOver}
 use Rattle.instant.proofs.Written.{state-written, store-written, output-written}
 
 module _ (score given : List ℕ) (l : Lent) where
-  abbrev down : Verdict → Exit
-  down v = kept l (Turned v)
-
   pub turned : {v : Verdict} {n : ℕ} → n ≡ numberOf v → v ≡ verdict score → (n ≡ 0 → ⊥) → kept l (Turned v) ≡ exit score given l
   unfolding exit
-  turned number-is is not-zero = stages.turned score number-is is down _ not-zero
+  turned number-is is not-zero = stages.turned score number-is is (λ v. kept l (Turned v)) _ not-zero
 
   module _ (accepted : numberOf (verdict score) ≡ 0) where
     pub lengths : lengthFault given l ≡ true → kept l Lengths ≡ exit score given l
     unfolding exit
-    lengths e = cond-true _ _ e ∙ passed score accepted down _
+    lengths e = passed score accepted _ (cond-true _ e refl)
 
     module _ (long : lengthFault given l ≡ false) where
       pub state : stateFault (sizes score .agents) (l .state) ≡ true → kept l State ≡ exit score given l
       unfolding exit
-      state e = cond-true _ _ e ∙ cond-false _ _ long ∙ passed score accepted down _
+      state e = passed score accepted _ (cond-false _ long (cond-true _ e refl))
 
       module _ (lawful : stateFault (sizes score .agents) (l .state) ≡ false) where
         pub input : tokenFault score given ≡ true → kept l Input ≡ exit score given l
         unfolding exit
-        input e = cond-true _ _ e ∙ cond-false _ _ lawful ∙ cond-false _ _ long ∙ passed score accepted down _
+        input e = passed score accepted _ (cond-false _ long (cond-false _ lawful (cond-true _ e refl)))
 
         pub settled : tokenFault score given ≡ false → (a : Answer) → a ≡ answer (decode score) (stateOf (l .state)) (tokensIn given) →
             stateFault (sizes score .agents) (asBytes (after a)) ≡ false → answered (decode score) a ≡ exit score given l
         unfolding exit
-        settled e a is n =
-            cond-false (cleared l Next) (answered (decode score) a) n ∙ ap (played score l) is
-            ∙ cond-false _ _ e ∙ cond-false _ _ lawful ∙ cond-false _ _ long ∙ passed score accepted down _
+        settled e a is n = passed score accepted _ (cond-false _ long (cond-false _ lawful (cond-false _ e (settles ∙ ap (played score l) is))))
+          where
+            settles : answered (decode score) a ≡ played score l a
+            settles = cond-false _ n refl
 
 -- what handing an outcome over leaves, where it is an answer's
 module _ (sc : Score) (a : Answer) (few : length (sc .agents) ≤ 1024) (known : sc .tokens ≤ 256) (inside : Inside sc a) {o : Outcome} (is : o ≡ outcomeOf a)

@@ -1,6 +1,6 @@
 -- The journal check's exits, one for each reply.
 --     turned, lengths, not-whole, against, read
-use mathlib.Core.Path.{_≡_, ap, _∙_}
+use mathlib.Core.Path.{_≡_, refl, ap}
 use mathlib.Core.Bool.{true, not}
 use mathlib.Core.List.{List}
 use Prim.Native.Nat.{ℕ}
@@ -24,31 +24,26 @@ use Rattle.history.proofs.ByForm.{by-form}
 use Rattle.journalcheck.specs.JournalCheckCall.{Exit, left, checked, exit}
 
 module _ (score journal scratch : List ℕ) where
-  abbrev down : Verdict → Exit
-  down v = left scratch (Turned v)
-
   pub turned : {v : Verdict} {n : ℕ} → n ≡ numberOf v → v ≡ verdict score → (n ≡ 0 → ⊥) → left scratch (Turned v) ≡ exit score journal scratch
   unfolding exit
-  turned number-is is not-zero = stages.turned score number-is is down _ not-zero
+  turned number-is is not-zero = stages.turned score number-is is (λ v. left scratch (Turned v)) _ not-zero
 
   module _ (accepted : numberOf (verdict score) ≡ 0) where
     pub lengths : (length scratch ≡ scratchBytes → ⊥) → left scratch Lengths ≡ exit score journal scratch
     unfolding exit
-    lengths n = cond-true _ _ (ap not (ne-eqb (length scratch) scratchBytes n)) ∙ passed score accepted down _
+    lengths n = passed score accepted _ (cond-true _ (ap not (ne-eqb (length scratch) scratchBytes n)) refl)
 
     module _ (long : length scratch ≡ scratchBytes) where
-      formed : {f : Form} → formOf true (sizes score .tokens) journal ≡ f → byForm f (left scratch) (left noScratch (checked score journal)) ≡ exit score journal scratch
+      formed : {e : Exit} {f : Form} → formOf true (sizes score .tokens) journal ≡ f → e ≡ byForm f (left scratch) (left noScratch (checked score journal)) → e ≡ exit score journal scratch
       unfolding exit
-      formed e =
-          by-form (left scratch) (left noScratch (checked score journal)) e
-          ∙ cond-false _ _ (ap not (eq-eqb (length scratch) scratchBytes long)) ∙ passed score accepted down _
+      formed f is = passed score accepted _ (cond-false _ (ap not (eq-eqb (length scratch) scratchBytes long)) (by-form (left scratch) (left noScratch (checked score journal)) f is))
 
       pub not-whole : formOf true (sizes score .tokens) journal ≡ Bytes → left scratch NoWords ≡ exit score journal scratch
-      not-whole e = formed e
+      not-whole f = formed f refl
 
       pub against : (k : ℕ) → formOf true (sizes score .tokens) journal ≡ Word k → left scratch (Against k) ≡ exit score journal scratch
-      against k e = formed e
+      against k f = formed f refl
 
       pub read : formOf true (sizes score .tokens) journal ≡ Good → {scratch′ : List ℕ} {reply : Reply} → scratch′ ≡ noScratch → reply ≡ checked score journal →
           _≡_ {A = Exit} (record { scratch = scratch′; reply = reply }) (exit score journal scratch)
-      read good z r = (λ i. left (z i) (r i)) ∙ formed good
+      read good z r = formed good (λ i. left (z i) (r i))

@@ -4,7 +4,7 @@
 --     neither                  a disjunction that fails
 --     cond-true, cond-false    what a test chooses
 --     either, by-test          what holds of either side of a choice, knowing how the test ended or not, holds of the choice
-use mathlib.Core.Path.{_≡_, refl, sym, ap}
+use mathlib.Core.Path.{_≡_, refl, sym, ap, _∙_}
 use mathlib.Core.Bool.{Bool, true, false, cond, _&&_, _||_}
 use Prim.Native.Nat.{ℕ}
 use native.Mathlib.Omega.{arith}
@@ -26,11 +26,11 @@ neither true b e = absurd (true-is-false refl e)
 neither false b e = (refl, e)
 
 module _ {A : Type 0} where
-  pub cond-true : (x y : A) {b : Bool} → b ≡ true → x ≡ cond b x y
-  cond-true x y e = sym (ap (λ b. cond b x y) e)
+  pub cond-true : (y : A) {x z : A} {b : Bool} → b ≡ true → z ≡ x → z ≡ cond b x y
+  cond-true y {x} e is = is ∙ sym (ap (λ b. cond b x y) e)
 
-  pub cond-false : (x y : A) {b : Bool} → b ≡ false → y ≡ cond b x y
-  cond-false x y e = sym (ap (λ b. cond b x y) e)
+  pub cond-false : (x : A) {y z : A} {b : Bool} → b ≡ false → z ≡ y → z ≡ cond b x y
+  cond-false x {y} e is = is ∙ sym (ap (λ b. cond b x y) e)
 
   pub by-test : (P : A → Type 0) (test : Bool) {x y : A} → (test ≡ true → P x) → (test ≡ false → P y) → P (cond test x y)
   by-test P test {x} {y} passes fails = go test refl

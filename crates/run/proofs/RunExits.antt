@@ -1,7 +1,7 @@
 -- The run's exits, one for each reply.
 --     turned, lengths, state, bytes, word, runs
 --     Lengths-are      the two lengths, where none is wrong
-use mathlib.Core.Path.{_≡_, _∙_}
+use mathlib.Core.Path.{_≡_, refl}
 use mathlib.Core.Bool.{true, false, not}
 use mathlib.Core.List.{List}
 use Prim.Native.Nat.{ℕ}
@@ -29,41 +29,38 @@ use Rattle.runlist.specs.Run.{Ran, runFrom}
 use Rattle.run.specs.RunCall.{Lent, lent, Exit, lengthFault, kept, ended, exit, LeftBy}
 
 module _ (score inputs : List ℕ) (l : Lent) where
-  abbrev down : Verdict → Exit
-  down v = kept l (Turned v)
+  abbrev ran : Ran
+  ran = runFrom score (l .state) (length (l .journal)) (inputLists inputs)
 
   pub turned : {v : Verdict} {n : ℕ} → n ≡ numberOf v → v ≡ verdict score → (n ≡ 0 → ⊥) → kept l (Turned v) ≡ exit score inputs l
   unfolding exit
-  turned number-is is not-zero = stages.turned score number-is is down _ not-zero
+  turned number-is is not-zero = stages.turned score number-is is (λ v. kept l (Turned v)) _ not-zero
 
   module _ (accepted : numberOf (verdict score) ≡ 0) where
     pub lengths : lengthFault l ≡ true → kept l Lengths ≡ exit score inputs l
     unfolding exit
-    lengths e = cond-true _ _ e ∙ passed score accepted down _
+    lengths e = passed score accepted _ (cond-true _ e refl)
 
     module _ (long : lengthFault l ≡ false) where
       pub state : stateFault (sizes score .agents) (l .state) ≡ true → kept l State ≡ exit score inputs l
       unfolding exit
-      state e = cond-true _ _ e ∙ cond-false _ _ long ∙ passed score accepted down _
+      state e = passed score accepted _ (cond-false _ long (cond-true _ e refl))
 
       module _ (lawful : stateFault (sizes score .agents) (l .state) ≡ false) where
-        abbrev ran : Ran
-        ran = runFrom score (l .state) (length (l .journal)) (inputLists inputs)
-
-        formed : {f : Form} → formOf false (sizes score .tokens) inputs ≡ f → byForm f (kept l) (ended l ran) ≡ exit score inputs l
+        formed : {e : Exit} {f : Form} → formOf false (sizes score .tokens) inputs ≡ f → e ≡ byForm f (kept l) (ended l ran) → e ≡ exit score inputs l
         unfolding exit
-        formed e = by-form (kept l) (ended l ran) e ∙ cond-false _ _ lawful ∙ cond-false _ _ long ∙ passed score accepted down _
+        formed f is = passed score accepted _ (cond-false _ long (cond-false _ lawful (by-form (kept l) (ended l ran) f is)))
 
         pub bytes : formOf false (sizes score .tokens) inputs ≡ Bytes → kept l NoWords ≡ exit score inputs l
-        bytes e = formed e
+        bytes f = formed f refl
 
         pub word : (k : ℕ) → formOf false (sizes score .tokens) inputs ≡ Word k → kept l (Against k) ≡ exit score inputs l
-        word k e = formed e
+        word k f = formed f refl
 
         pub runs : formOf false (sizes score .tokens) inputs ≡ Good → (state′ journal′ scratch′ : List ℕ) (reply : Reply) → scratch′ ≡ noScratch →
             LeftBy ran (l .journal) state′ journal′ reply →
             _≡_ {A = Exit} (record { lent = lent state′ journal′ scratch′; reply = reply }) (exit score inputs l)
-        runs good state′ journal′ scratch′ reply z r = (λ i. record { lent = lent (r .state-is i) (r .journal-is i) (z i); reply = r .reply-is i }) ∙ formed good
+        runs good state′ journal′ scratch′ reply z r = formed good (λ i. record { lent = lent (r .state-is i) (r .journal-is i) (z i); reply = r .reply-is i })
 
 pub record Lengths-are (l : Lent) : Type 0 where
   pub state-long : length (l .state) ≡ stateBytes

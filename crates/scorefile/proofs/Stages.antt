@@ -26,15 +26,14 @@ use Rattle.scorefile.proofs.Lawful.{accepted-faultless, accepted-lawful
 -- by a verdict and its number, as the check returned them
 module _ (score : List ℕ) {v : Verdict} {n : ℕ} (number-is : n ≡ numberOf v) (is : v ≡ verdict score) where
   pub turned : {E : Type 0} (down : Verdict → E) (on : E) → (n ≡ 0 → ⊥) → down v ≡ cond (not (eqb (numberOf (verdict score)) 0)) (down (verdict score)) on
-  turned down on not-zero =
-      ap down is ∙ cond-true (down (verdict score)) on (ap not (ne-eqb (numberOf (verdict score)) 0 (λ z. not-zero (number-is ∙ ap numberOf is ∙ z))))
+  turned down on not-zero = cond-true on (ap not (ne-eqb (numberOf (verdict score)) 0 (λ z. not-zero (number-is ∙ ap numberOf is ∙ z)))) (ap down is)
 
   pub accepted : n ≡ 0 → numberOf (verdict score) ≡ 0
   accepted zero = sym (number-is ∙ ap numberOf is) ∙ zero
 
 module _ (score : List ℕ) (accepted : numberOf (verdict score) ≡ 0) where
-  pub passed : {E : Type 0} (down : Verdict → E) (on : E) → on ≡ cond (not (eqb (numberOf (verdict score)) 0)) (down (verdict score)) on
-  passed down on = cond-false (down (verdict score)) on (ap not (eq-eqb (numberOf (verdict score)) 0 accepted))
+  pub passed : {E : Type 0} {on z : E} (x : E) → z ≡ on → z ≡ cond (not (eqb (numberOf (verdict score)) 0)) x on
+  passed x = cond-false x (ap not (eq-eqb (numberOf (verdict score)) 0 accepted))
 
   pub playable : Playable score
   playable = let e = accepted-only (verdict score) accepted in record { whole = accepted-faultless score e .enough; lawful = accepted-lawful score e }
