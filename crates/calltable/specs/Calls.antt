@@ -1,5 +1,5 @@
--- What the tables hold in which the check gathers unguarded calls: a set of procedures for each agent, as the bits of
--- a number, and 64 rows of 64 flags, a row for each procedure.
+-- Contracts of inner functions: what the tables hold in which the check gathers unguarded calls, a set of procedures for
+-- each agent, as the bits of a number, and 64 rows of 64 flags, a row for each procedure.
 --     inSet          whether a procedure is in a set
 --     leadsBy        whether an agent leads to a procedure, by the sets of the agents below it
 --     Gathered       the set of each agent below n holds the procedures that it leads to

@@ -1,4 +1,4 @@
--- What is read off the marks of an instant.
+-- Contracts of inner functions: what is read off the marks of an instant.
 --     Ended          whether a live agent aborts; if none does, how many are reduced, and the bodies left awake
 use mathlib.Core.Path.{_≡_}
 use mathlib.Core.Bool.{false}

@@ -1,4 +1,4 @@
--- Marks of an instant to which nothing can be added.
+-- Contracts of inner functions: marks of an instant to which nothing can be added.
 --     Shut           whatever the rules and the clash bring is held
 --     Fixed          marks that are sound and closed: the instant's least fixed point
 use mathlib.Core.List.{List, List·Memᴰ}

@@ -1,4 +1,4 @@
--- What the engine returns of an instant.
+-- Contracts of inner functions: what the engine returns of an instant.
 --     outcomeOf      an answer, with the store and the agents awake next as flags
 use Rattle.tcc.specs.Instant.{Answer, count}
 use Rattle.store.specs.Flags.{flagsOf}

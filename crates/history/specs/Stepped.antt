@@ -1,4 +1,4 @@
--- One instant from where a score stands, by value.
+-- Contracts of inner functions: one instant from where a score stands, by value.
 --     Stepped        it is what the definition answers: the status, what goes to the ports, whether the next state would
 --                    meet 9, and where the score stands then
 use mathlib.Core.Path.{_≡_}

@@ -1,4 +1,4 @@
--- How an outcome is written to the lent buffers.
+-- Contracts of inner functions: how an outcome is written to the lent buffers.
 --     Buffers        state and maps have their lengths
 --     Known          no agent and no token of an outcome is from past the score's
 --     HandedOver     what the buffers hold: the state, the store and what goes to the ports, by the outcome's flags

@@ -1,4 +1,4 @@
--- The words of one instant as a good form has them.
+-- Contracts of inner functions: the words of one instant as a good form has them.
 --     Formed         they are the instant's word, its inputs and its outputs, whose tokens rise and are below T
 use mathlib.Core.Path.{_≡_}
 use mathlib.Core.List.{List}

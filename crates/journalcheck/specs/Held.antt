@@ -1,4 +1,4 @@
--- The words of one instant of a journal, held against what the run writes.
+-- Contracts of inner functions: the words of one instant of a journal, held against what the run writes.
 --     Held           what holding them against an answer says, and where the score stands after it
 use mathlib.Core.Path.{_≡_}
 use mathlib.Core.Bool.{not}

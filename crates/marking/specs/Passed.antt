@@ -1,4 +1,5 @@
--- What a pass of the engine adds to its marks: the agents that are live and the tokens that are held, as flags.
+-- Contracts of inner functions: what a pass of the engine adds to its marks, the agents that are live and the tokens that
+-- are held, as flags.
 --     Served         an agent, once it is live, has had its effect
 --     Passed         a pass that has come down to agent i: the marks before it and now, and whether another may find more;
 --                    marks are only added, and each follows from those before; if no other is needed, no token was added

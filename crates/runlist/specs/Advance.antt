@@ -1,4 +1,4 @@
--- What the parts of a run do, by value.
+-- Contracts of inner functions: what the parts of a run do, by value.
 --     Advanced       one instant: why it is not written, or its words at the front of the journal, and where the score
 --                    stands then
 --     RanTo          a run from a state's bytes, given by its definition: what it wrote and where the score stands

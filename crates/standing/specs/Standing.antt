@@ -1,4 +1,4 @@
--- Where a score stands between two instants, by value.
+-- Contracts of inner functions: where a score stands between two instants, by value.
 --     stateIn        the state that it stands for
 --     standingIn     where a score stands in the bytes of a state
 use mathlib.Core.Bool.{cond, not}

@@ -1,4 +1,4 @@
--- What the parts of the closure do to a store that is kept as flags.
+-- Contracts of inner functions: what the parts of the closure do to a store that is kept as flags.
 --     adds           whether a rule word's rule adds its conclusion: its premises are in, the conclusion is not
 --     Passed         a pass over the rules: what was in stays, what comes in derives from it, and how many did; if none
 --                    did, the store is closed under the rules

@@ -1,6 +1,7 @@
--- The interface for engines. An engine keeps marks: which agents are live, which tokens are held. Marks that only ever
--- follow from what an instant starts with are sound; marks that nothing can be added to are closed. Sound and closed
--- marks are the instant's answer, and sound marks that show a live abort are an aborted instant, closed or not.
+-- Contracts of inner functions: the interface for engines. An engine keeps marks: which agents are live, which tokens are
+-- held. Marks that only ever follow from what an instant starts with are sound; marks that nothing can be added to are
+-- closed. Sound and closed marks are the instant's answer, and sound marks that show a live abort are an aborted instant,
+-- closed or not.
 --     Closed         marks hold the start and are closed under each agent's effect, the rules and the clash
 --     Reach          marks that the instant itself makes: they are closed
 --     Sound          every mark is one of the instant's
