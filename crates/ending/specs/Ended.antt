@@ -1,4 +1,5 @@
--- Contracts of inner functions: what is read off the marks of an instant.
+-- Contracts of inner functions: what is read off the marks of an instant. Where it aborts, count and agents awake are
+-- whatever the reading had come to: an aborted instant has neither.
 --     Ended          whether a live agent aborts; if none does, how many are reduced, and the bodies left awake
 use mathlib.Core.Path.{_≡_}
 use mathlib.Core.Bool.{false}

@@ -1,4 +1,5 @@
--- Contracts of inner functions: one instant from where a score stands, by value.
+-- Contracts of inner functions: one instant from where a score stands, by value. The flags of an aborted score stand for
+-- nothing, so that they are left open; so in `runlist/specs/Advance.antt`.
 --     Stepped        it is what the definition answers: the status, what goes to the ports, whether the next state would
 --                    meet 9, and where the score stands then
 use mathlib.Core.Path.{_≡_}

@@ -1,5 +1,6 @@
 -- Contracts of inner functions: what a pass of the engine adds to its marks, the agents that are live and the tokens that
--- are held, as flags.
+-- are held, as flags. How much of what follows a pass marks is the engine's choice; what every choice has in common is
+-- enough for the instant's answer (`tcc/specs/FixedPoint.antt`).
 --     Served         an agent, once it is live, has had its effect
 --     Passed         a pass that has come down to agent i: the marks before it and now, and whether another may find more;
 --                    marks are only added, and each follows from those before; if no other is needed, no token was added

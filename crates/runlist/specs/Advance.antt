@@ -1,7 +1,8 @@
 -- Contracts of inner functions: what the parts of a run do, by value.
 --     Advanced       one instant: why it is not written, or its words at the front of the journal, and where the score
 --                    stands then
---     RanTo          a run from a state's bytes, given by its definition: what it wrote and where the score stands
+--     RanTo          a run from a state's bytes, given by its definition: what it wrote and, if it wrote an instant, where
+--                    the score stands
 use mathlib.Core.Path.{_≡_}
 use mathlib.Core.Bool.{cond}
 use mathlib.Core.List.{List, _++_}
