@@ -17,6 +17,7 @@ use Rattle.format.proofs.Decode.{decode-tokens, sizes-few, playable-agents}
 use Rattle.verdicts.specs.Verdicts.{numberOf}
 use Rattle.scorefile.specs.Check.{verdict}
 use Rattle.scorefile.proofs.Stages.{playable}
+use Rattle.lent.specs.Lengths.{scratchBytes}
 use Rattle.lent.specs.States.{asBytes, LawfulState}
 use Rattle.lent.proofs.Round.{asBytes-length, lawful-bytes}
 use Rattle.form.specs.declared.Form.the-variants.{Good}
@@ -54,7 +55,7 @@ module _ (score : List ℕ) (accepted : numberOf (verdict score) ≡ 0) where
       let rest = run-plays more (λ l m. rising l (List·Memᴰ·tail m)) (after b) (next-lawful score law counted s inputs h) (room - 4 * length (entry (decode score) inputs b)) in
       rw (instant-lawful score law counted s inputs h, instant-entry score law counted s inputs, after-bytes score law counted s inputs, rest)
 
-  pub exit-plays : (inputs journal scratch : List ℕ) (st : State) → LawfulState (sizes score .agents) st → length scratch ≡ 2048 → formOf false (sizes score .tokens) inputs ≡ Good →
+  pub exit-plays : (inputs journal scratch : List ℕ) (st : State) → LawfulState (sizes score .agents) st → length scratch ≡ scratchBytes → formOf false (sizes score .tokens) inputs ≡ Good →
       exit score inputs (lent (asBytes st) journal scratch) ≡ ended (lent (asBytes st) journal scratch) (playOn (decode score) st (length journal) (inputLists inputs))
   unfolding exit
   exit-plays inputs journal scratch st lawful long good =
