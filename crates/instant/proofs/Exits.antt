@@ -26,10 +26,10 @@ use Rattle.lent.specs.Maps.{tokensIn, mapOf}
 use Rattle.lent.specs.States.{stateFault, stateOf, asBytes, runningWord, abortedWord, agentWords}
 use Rattle.lent.proofs.Lengths.{right}
 use Rattle.standing.proofs.Inside.{Inside}
+use Rattle.buffers.specs.HandedOver.{HandedOver}
+use Rattle.buffers.proofs.Written.{state-written, store-written, output-written}
 use Rattle.instant.specs.declared.Reply.the-variants.{Score as Turned, Lengths, State, Input, Settled}
 use Rattle.instant.specs.InstantCall.{Lent, Exit, lengthFault, tokenFault, kept, answered, exit, lent, played}
-use Rattle.instant.specs.HandedOver.{HandedOver}
-use Rattle.instant.proofs.Written.{state-written, store-written, output-written}
 
 module _ (score given : List ℕ) (l : Lent) where
   pub turned : {v : Verdict} {n : ℕ} → n ≡ numberOf v → v ≡ verdict score → (n ≡ 0 → ⊥) → kept l (Turned v) ≡ exit score given l

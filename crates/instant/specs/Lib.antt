@@ -1,2 +1,1 @@
 pub mod InstantCall
-pub mod HandedOver

@@ -16,8 +16,8 @@ use Rattle.lent.specs.States.{agentWords}
 use Rattle.lent.proofs.Round.{mapOf-same}
 use Rattle.standing.proofs.Ports.{output-below}
 use Rattle.standing.proofs.Inside.{flags-back, flags-known}
-use Rattle.instant.proofs.hand_over.Statement.{statement}
-use Rattle.instant.proofs.hand_over.Tie as tie
+use Rattle.buffers.proofs.hand_over.Statement.{statement}
+use Rattle.buffers.proofs.hand_over.Tie as tie
 
 first-word-requires : tie.Need-first-word-requires
 first-word-requires c κs = search needs

@@ -3,8 +3,8 @@ use mathlib.Core.Path.{sym, ap}
 use mathlib.Core.Bool.{cond}
 use borrow.Author.Tests.{eq-eqb, ne-eqb}
 use Rattle.lent.specs.States.{runningWord, abortedWord}
-use Rattle.instant.proofs.first_word.Statement.{statement}
-use Rattle.instant.proofs.first_word.Tie as tie
+use Rattle.buffers.proofs.first_word.Statement.{statement}
+use Rattle.buffers.proofs.first_word.Tie as tie
 
 returns : tie.Need-returns
 returns c = sym (ap (λ b. cond b abortedWord runningWord) (eq-eqb (c .before .args .status) 2 (c .if1 .taken)))

@@ -1,7 +1,7 @@
 -- `wrong_length`: five tests, as they stand.
 use mathlib.Core.Path.{refl}
-use Rattle.instant.proofs.wrong_length.Statement.{statement}
-use Rattle.instant.proofs.wrong_length.Tie as tie
+use Rattle.buffers.proofs.wrong_length.Statement.{statement}
+use Rattle.buffers.proofs.wrong_length.Tie as tie
 
 returns : tie.Need-returns
 returns c = refl
