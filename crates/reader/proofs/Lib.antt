@@ -1,4 +1,3 @@
-pub mod Places
 pub mod Held
 pub mod Numbers
 pub mod Through

@@ -17,10 +17,11 @@ use Rattle.form.specs.Form.{isInstant, formOf}
 use Rattle.parts.specs.Instants.{instantsIn}
 use Rattle.parts.specs.Parts.{span}
 use Rattle.parts.proofs.Parts.{instants-step, instants-end, part-starts, span-positive, starts-some, good-starts, good-four}
-use Rattle.reader.specs.Reading.{startOf, sizeAt, shownAt, placeAfter, readerAt, movedBy}
+use Rattle.places.specs.Places.{startOf, sizeAt, shownAt, placeAfter}
+use Rattle.places.proofs.Places.{start-good, start-of, size-fits, size-shown, place-here}
+use Rattle.reader.specs.Reading.{readerAt, movedBy}
 use Rattle.reader.specs.Through.{showing, through, Along, GoesThrough, TurnedDown}
 use Rattle.reader.proofs.Numbers.{form-meets}
-use Rattle.reader.proofs.Places.{start-good, start-of, size-fits, size-shown, place-here}
 
 -- ---- one instant
 

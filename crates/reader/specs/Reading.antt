@@ -3,25 +3,17 @@
 -- or journal bytes not a multiple of 4", number 12; "list or journal word against its form, or token T or above", number 13
 -- and the word.
 --     numberOf, wordOf     the number by which a form is turned down, and the word; 0 where there is none
---     startBy, startOf     where a reader starts: at the first instant, or past the last where the journal is against its form
---     sizeAt         how many bytes it shows at a position: up to the next instant word or the end
---     shownAt        what it shows there
---     placeAfter     the position so many instants further on
---     placeOf        the position of instant k
 --     readerAt       a reader of a journal at a position, with the journal's form
 --     made           the reader that is made of a journal
 --     movedBy        the reader, moved on by so many instants: its form is kept
-use mathlib.Core.Bool.{true, cond}
+use mathlib.Core.Bool.{true}
 use mathlib.Core.List.{List}
-use Prim.Native.Nat.{ℕ, zero, suc, _+_, _*_, _%_}
-use lib.Dec.{eqb}
-use lib.ListN.{length, take, drop}
+use Prim.Native.Nat.{ℕ}
 use denote.Ref.{RefT, now}
-use Rattle.words.specs.Word.{words}
 use Rattle.form.specs.declared.Form.{Form}
 use Rattle.form.specs.declared.Form.the-variants.{Good, Bytes, Word}
 use Rattle.form.specs.Form.{formOf}
-use Rattle.parts.specs.Parts.{span}
+use Rattle.places.specs.Places.{startOf, placeAfter}
 use Rattle.reader.specs.declared.Reader.{Reader}
 
 abbrev pub numberOf : Form → ℕ
@@ -33,27 +25,6 @@ abbrev pub wordOf : Form → ℕ
 wordOf Good = 0
 wordOf Bytes = 0
 wordOf (Word k) = k
-
-abbrev pub startBy : Form → List ℕ → ℕ
-startBy Good bytes = 0
-startBy Bytes bytes = length bytes
-startBy (Word k) bytes = length bytes
-
-unfoldable pub startOf : ℕ → List ℕ → ℕ
-startOf tokens bytes = startBy (formOf true tokens bytes) bytes
-
-unfoldable pub sizeAt : List ℕ → ℕ → ℕ
-sizeAt bytes at = cond (eqb (at % 4) 0) (4 * span (words (drop at bytes))) 0
-
-abbrev pub shownAt : List ℕ → ℕ → List ℕ
-shownAt bytes at = take (sizeAt bytes at) (drop at bytes)
-
-unfoldable pub placeAfter : ℕ → List ℕ → ℕ → ℕ
-placeAfter zero bytes at = at
-placeAfter (suc n) bytes at = placeAfter n bytes (at + sizeAt bytes at)
-
-abbrev pub placeOf : ℕ → ℕ → List ℕ → ℕ
-placeOf tokens k bytes = placeAfter k bytes (startOf tokens bytes)
 
 abbrev pub readerAt : RefT (List ℕ) → ℕ → Form → Reader
 readerAt journal at form = record { journal = journal; at = at; form = form }

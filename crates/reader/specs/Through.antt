@@ -19,7 +19,8 @@ use Rattle.words.specs.Word.{words}
 use Rattle.form.specs.Form.{mayFollow, formOf}
 use Rattle.form.specs.declared.Form.the-variants.{Good}
 use Rattle.parts.specs.Instants.{instantsIn}
-use Rattle.reader.specs.Reading.{numberOf, wordOf, shownAt, made, movedBy}
+use Rattle.places.specs.Places.{shownAt}
+use Rattle.reader.specs.Reading.{numberOf, wordOf, made, movedBy}
 use Rattle.reader.specs.declared.Reader.{Reader}
 
 abbrev pub showing : Reader → List ℕ

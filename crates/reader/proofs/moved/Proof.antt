@@ -33,13 +33,14 @@ use denote.Triple.Table.{entered, cited}
 use denote.Triple.Walked.{says, Stays, stay-none, walkOf, goes-none, Walks, ends-at, walked, walk-meets}
 use denote.Exit.{yes}
 use denote.Triple.Clauses.{ensured, lasts}
-use Rattle.reader.specs.Reading.{placeAfter, readerAt}
+use Rattle.places.specs.Places.{placeAfter}
+use Rattle.places.proofs.after as after
+use Rattle.places.proofs.after.Symbol as after-def
+use Rattle.places.proofs.after.Symbol.{name as #after}
+use Rattle.places.proofs.after.Met as after-thm
+use Rattle.reader.specs.Reading.{readerAt}
 use Rattle.reader.specs.declared.Reader.{Reader}
 use Rattle.reader.proofs.Held.{sliceOf, machine, FormIs, form-typed, Row, row-vals, row-tells, typed, form-is, Lent, Held, lends, holds}
-use Rattle.reader.proofs.after as after
-use Rattle.reader.proofs.after.Symbol as after-def
-use Rattle.reader.proofs.after.Symbol.{name as #after}
-use Rattle.reader.proofs.after.Met as after-thm
 use Rattle.reader.proofs.moved.Key.{name as #moved}
 use Rattle.reader.proofs.moved as moved
 use Rattle.reader.proofs.moved.Statement as stated
@@ -135,4 +136,4 @@ moved-spec 𝓤 H 𝓜 𝓖 𝓡 =
     entered 𝓤 H (tripleOf 𝓤 H (𝓖 .A) moved.signature (moved.spec 𝓤 H (𝓖 .A) (𝓜 .mem) (𝓡 .run)))
     (tables 𝓤 H 𝓜 𝓡 code.env .C) (tables 𝓤 H 𝓜 𝓡 code.env .Λ) #moved code.function (code.unfolded 𝓤 H 𝓜 𝓡)
     (meets 𝓤 H (𝓖 .A) (givenOf 𝓤 H 𝓜 𝓖) (𝓜 .mem) (𝓡 .run) (tablesOf 𝓤 H 𝓜 (tables 𝓤 H 𝓜 𝓡 code.env))
-    (cited 𝓤 H (After 𝓤 H (𝓖 .A) (𝓜 .mem) (𝓡 .run)) 𝓜 𝓡 code.env #after after-def.routine code.calls-reader·after (after-thm.met 𝓤 H 𝓜 𝓖 𝓡)))
+    (cited 𝓤 H (After 𝓤 H (𝓖 .A) (𝓜 .mem) (𝓡 .run)) 𝓜 𝓡 code.env #after after-def.routine code.calls-places·after (after-thm.met 𝓤 H 𝓜 𝓖 𝓡)))

@@ -39,17 +39,18 @@ use Rattle.form.specs.declared.Form.{Form}
 use Rattle.form.specs.Form.{formOf}
 use Rattle.form.proofs.Form as F
 use Rattle.form.proofs.Form.Laws as F′
-use Rattle.reader.specs.Reading.{startBy, readerAt}
-use Rattle.reader.proofs.Places.{start-of as start-at}
+use Rattle.places.specs.Places.{startBy}
+use Rattle.places.proofs.Places.{start-of as start-at}
+use Rattle.places.proofs.form_of as form-of
+use Rattle.places.proofs.form_of.Symbol as form-of-def
+use Rattle.places.proofs.form_of.Symbol.{name as #form-of}
+use Rattle.places.proofs.form_of.Met as form-of-thm
+use Rattle.places.proofs.start_of as start-of
+use Rattle.places.proofs.start_of.Symbol as start-of-def
+use Rattle.places.proofs.start_of.Symbol.{name as #start-of}
+use Rattle.places.proofs.start_of.Met as start-of-thm
+use Rattle.reader.specs.Reading.{readerAt}
 use Rattle.reader.proofs.Held.{sliceOf, tagged, machine, FormIs, form-tells, told, form-lawful, form-owned, typed, is-made, Lent, twice, holds}
-use Rattle.reader.proofs.form_of as form-of
-use Rattle.reader.proofs.form_of.Symbol as form-of-def
-use Rattle.reader.proofs.form_of.Symbol.{name as #form-of}
-use Rattle.reader.proofs.form_of.Met as form-of-thm
-use Rattle.reader.proofs.start_of as start-of
-use Rattle.reader.proofs.start_of.Symbol as start-of-def
-use Rattle.reader.proofs.start_of.Symbol.{name as #start-of}
-use Rattle.reader.proofs.start_of.Met as start-of-thm
 use Rattle.reader.proofs.new.Key.{name as #new}
 use Rattle.reader.proofs.new as new
 use Rattle.reader.proofs.new.Statement as stated
@@ -167,5 +168,5 @@ new-spec 𝓤 H 𝓜 𝓖 𝓡 =
     entered 𝓤 H (tripleOf 𝓤 H (𝓖 .A) new.signature (new.spec 𝓤 H (𝓖 .A) (𝓜 .mem) (𝓡 .run)))
     (tables 𝓤 H 𝓜 𝓡 code.env .C) (tables 𝓤 H 𝓜 𝓡 code.env .Λ) #new code.function (code.unfolded 𝓤 H 𝓜 𝓡)
     (meets 𝓤 H (𝓖 .A) (givenOf 𝓤 H 𝓜 𝓖) (𝓜 .mem) (𝓡 .run) (tablesOf 𝓤 H 𝓜 (tables 𝓤 H 𝓜 𝓡 code.env))
-    (cited 𝓤 H (FormOf 𝓤 H (𝓖 .A) (𝓜 .mem) (𝓡 .run)) 𝓜 𝓡 code.env #form-of form-of-def.routine code.calls-reader·form-of (form-of-thm.met 𝓤 H 𝓜 𝓖 𝓡))
-    (cited 𝓤 H (StartOf 𝓤 H (𝓖 .A) (𝓜 .mem) (𝓡 .run)) 𝓜 𝓡 code.env #start-of start-of-def.routine code.calls-reader·start-of (start-of-thm.met 𝓤 H 𝓜 𝓖 𝓡)))
+    (cited 𝓤 H (FormOf 𝓤 H (𝓖 .A) (𝓜 .mem) (𝓡 .run)) 𝓜 𝓡 code.env #form-of form-of-def.routine code.calls-places·form-of (form-of-thm.met 𝓤 H 𝓜 𝓖 𝓡))
+    (cited 𝓤 H (StartOf 𝓤 H (𝓖 .A) (𝓜 .mem) (𝓡 .run)) 𝓜 𝓡 code.env #start-of start-of-def.routine code.calls-places·start-of (start-of-thm.met 𝓤 H 𝓜 𝓖 𝓡)))

@@ -32,13 +32,13 @@ use denote.Triple.Table.{entered, cited}
 use denote.Triple.Walked.{says, Stays, stay-none, walkOf, goes-none, Walks, ends-at, walked, walk-meets}
 use denote.Exit.{yes}
 use denote.Triple.Clauses.{ensured, lasts}
-use Rattle.reader.specs.Reading.{shownAt}
+use Rattle.places.specs.Places.{shownAt}
+use Rattle.places.proofs.part_at as part-at
+use Rattle.places.proofs.part_at.Symbol as part-at-def
+use Rattle.places.proofs.part_at.Symbol.{name as #part-at}
+use Rattle.places.proofs.part_at.Met as part-at-thm
 use Rattle.reader.specs.declared.Reader.{Reader}
 use Rattle.reader.proofs.Held.{sliceOf, machine, Row, row-vals, row-tells, typed, Lent, Held, lends}
-use Rattle.reader.proofs.part_at as part-at
-use Rattle.reader.proofs.part_at.Symbol as part-at-def
-use Rattle.reader.proofs.part_at.Symbol.{name as #part-at}
-use Rattle.reader.proofs.part_at.Met as part-at-thm
 use Rattle.reader.proofs.shown.Key.{name as #shown}
 use Rattle.reader.proofs.shown as shown
 use Rattle.reader.proofs.shown.Statement as stated
@@ -121,4 +121,4 @@ shown-spec 𝓤 H 𝓜 𝓖 𝓡 =
     entered 𝓤 H (tripleOf 𝓤 H (𝓖 .A) shown.signature (shown.spec 𝓤 H (𝓖 .A) (𝓜 .mem) (𝓡 .run)))
     (tables 𝓤 H 𝓜 𝓡 code.env .C) (tables 𝓤 H 𝓜 𝓡 code.env .Λ) #shown code.function (code.unfolded 𝓤 H 𝓜 𝓡)
     (meets 𝓤 H (𝓖 .A) (givenOf 𝓤 H 𝓜 𝓖) (𝓜 .mem) (𝓡 .run) (tablesOf 𝓤 H 𝓜 (tables 𝓤 H 𝓜 𝓡 code.env))
-    (cited 𝓤 H (PartAt 𝓤 H (𝓖 .A) (𝓜 .mem) (𝓡 .run)) 𝓜 𝓡 code.env #part-at part-at-def.routine code.calls-reader·part-at (part-at-thm.met 𝓤 H 𝓜 𝓖 𝓡)))
+    (cited 𝓤 H (PartAt 𝓤 H (𝓖 .A) (𝓜 .mem) (𝓡 .run)) 𝓜 𝓡 code.env #part-at part-at-def.routine code.calls-places·part-at (part-at-thm.met 𝓤 H 𝓜 𝓖 𝓡)))

@@ -4,10 +4,10 @@ use Prim.Native.Nat.{_+_, _-_}
 use borrow.Author.Needs.{needs}
 use native.Mathlib.Omega.{arith}
 use lib.ListN.{length}
-use Rattle.reader.specs.Reading.{sizeAt, placeAfter}
-use Rattle.reader.proofs.Places.{size-fits, size-shown, place-here, place-more, place-none}
-use Rattle.reader.proofs.after.Statement.{statement}
-use Rattle.reader.proofs.after.Tie as tie
+use Rattle.places.specs.Places.{sizeAt, placeAfter}
+use Rattle.places.proofs.Places.{size-fits, size-shown, place-here, place-more, place-none}
+use Rattle.places.proofs.after.Statement.{statement}
+use Rattle.places.proofs.after.Tie as tie
 
 abbrev Inv-loop : tie.InvT-loop
 Inv-loop journal at instants place₀ left₀ place left = placeAfter left journal place ≡ placeAfter instants journal at

@@ -21,7 +21,7 @@ use Rattle.form.specs.declared.Form.the-variants.{Good, Bytes, Word}
 use Rattle.form.specs.Form.{formOf}
 use Rattle.parts.specs.Parts.{span, partFrom, partAt}
 use Rattle.parts.proofs.Parts.{span-fits}
-use Rattle.reader.specs.Reading.{startBy, startOf, sizeAt, placeAfter}
+use Rattle.places.specs.Places.{startBy, startOf, sizeAt, placeAfter}
 
 module _ (bytes : List ℕ) where
   start-by : {form g : Form} → form ≡ g → startBy g bytes ≡ startBy form bytes

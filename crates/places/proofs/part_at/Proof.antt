@@ -1,9 +1,9 @@
 -- `part_at`: the journal's part at the position.
 use mathlib.Core.Path.{_∙_}
 use borrow.Author.Needs.{needs}
-use Rattle.reader.proofs.Places.{size-part}
-use Rattle.reader.proofs.part_at.Statement.{statement}
-use Rattle.reader.proofs.part_at.Tie as tie
+use Rattle.places.proofs.Places.{size-part}
+use Rattle.places.proofs.part_at.Statement.{statement}
+use Rattle.places.proofs.part_at.Tie as tie
 
 part-requires : tie.Need-part-requires
 part-requires c κs = search needs

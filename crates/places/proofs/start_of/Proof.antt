@@ -1,8 +1,8 @@
 -- `start_of`: by the form.
 use borrow.Author.Needs.{needs}
-use Rattle.reader.proofs.Places.{start-good, start-bytes, start-word}
-use Rattle.reader.proofs.start_of.Statement.{statement}
-use Rattle.reader.proofs.start_of.Tie as tie
+use Rattle.places.proofs.Places.{start-good, start-bytes, start-word}
+use Rattle.places.proofs.start_of.Statement.{statement}
+use Rattle.places.proofs.start_of.Tie as tie
 
 enum-told : tie.Need-enum-told
 enum-told c = search needs

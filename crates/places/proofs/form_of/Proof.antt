@@ -1,7 +1,7 @@
--- `form_of`: what `journal::form_of` says of a journal.
+-- `form_of`: what `form::form_of` says of a journal.
 use borrow.Author.Needs.{needs}
-use Rattle.reader.proofs.form_of.Statement.{statement}
-use Rattle.reader.proofs.form_of.Tie as tie
+use Rattle.places.proofs.form_of.Statement.{statement}
+use Rattle.places.proofs.form_of.Tie as tie
 
 form-of-requires : tie.Need-form-of-requires
 form-of-requires c κs = search needs
