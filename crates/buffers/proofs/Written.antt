@@ -14,9 +14,10 @@ use Rattle.tcc.specs.Score.{Score}
 use Rattle.tcc.specs.Instant.{Answer, output, running, aborted, after}
 use Rattle.store.specs.Flags.{setOf, flagsOf}
 use Rattle.bits.specs.Bits.{bytesOf}
-use Rattle.lent.specs.Maps.{mapOf}
 use Rattle.lent.specs.States.{runningWord, abortedWord, agentWords, asBytes}
-use Rattle.lent.proofs.Round.{agentWords-same, mapOf-same}
+use Rattle.lent.proofs.Round.{agentWords-same}
+use Rattle.maps.specs.Maps.{mapOf}
+use Rattle.maps.proofs.Round.{mapOf-same}
 use Rattle.standing.proofs.Inside.{flags-back, Inside}
 
 pub state-written : (sc : Score) (a : Answer) → length (sc .agents) ≤ 1024 → Inside sc a →

@@ -15,8 +15,8 @@ use Rattle.store.specs.Flags.{setOf}
 use Rattle.engine.specs.declared.Outcome.{Outcome}
 use Rattle.bits.specs.Bits.{bytesOf}
 use Rattle.lent.specs.Lengths.{stateBytes, mapBytes}
-use Rattle.lent.specs.Maps.{mapOf}
 use Rattle.lent.specs.States.{runningWord, abortedWord, agentWords}
+use Rattle.maps.specs.Maps.{mapOf}
 
 pub record Buffers (state store output : List ℕ) : Type 0 where
   pub state-bytes : length state ≡ stateBytes

@@ -40,9 +40,9 @@ pub fn hand_over(
     let awake = outcome.awake;
     let first = first_word(outcome.status);
     lent::write_state(state, first, head.agents, awake);
-    lent::write_map(store, head.tokens, held);
+    maps::write_map(store, head.tokens, held);
     let out = standing::sent(score, held);
-    lent::write_map(output, head.tokens, out);
+    maps::write_map(output, head.tokens, out);
 }
 
 // Word 0 of the state after an answer.

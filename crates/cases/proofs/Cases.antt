@@ -23,11 +23,11 @@ use Rattle.faults.specs.Faults.{wordVerdict, firstFault, lengthVerdict}
 use Rattle.circles.specs.Circles.{circleFrom}
 use Rattle.scorefile.specs.Check.{verdict}
 use Rattle.bits.specs.Bits.{bitAt, bitsValue, bytesOf}
-use Rattle.lent.specs.Maps.{tokensIn}
 use Rattle.lent.specs.States.{agentsIn, stateFault, agentWords, asBytes, LawfulState}
 use Rattle.lent.specs.Lengths.{stateBytes, mapBytes, scratchBytes, noScratch}
 use Rattle.lent.proofs.Faults.{fault-running}
 use Rattle.lent.proofs.Round.{lawful-bytes}
+use Rattle.maps.specs.Maps.{tokensIn}
 use Rattle.instant.specs.declared.Reply.the-variants.{State, Input}
 use Rattle.instant.specs.InstantCall.{Lent, lent, lengthFault, tokenFault, kept, exit}
 use Rattle.form.specs.declared.Form.the-variants.{Good}

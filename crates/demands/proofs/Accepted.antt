@@ -21,9 +21,9 @@ use Rattle.format.proofs.Decode.{decode-tokens, sizes-few, playable-agents}
 use Rattle.verdicts.specs.Verdicts.{numberOf}
 use Rattle.scorefile.specs.Check.{verdict}
 use Rattle.scorefile.proofs.Stages.{playable}
-use Rattle.lent.specs.Maps.{tokensIn}
 use Rattle.lent.specs.States.{stateFault, stateOf, asBytes, LawfulState}
 use Rattle.lent.proofs.Round.{faultless-lawful}
+use Rattle.maps.specs.Maps.{tokensIn}
 use Rattle.standing.proofs.Inside.{Inside, answer-inside, next-lawful}
 use Rattle.instant.specs.InstantCall.{tokenFault}
 

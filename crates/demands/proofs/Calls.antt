@@ -7,7 +7,7 @@ use mathlib.Core.List.{List, [], _∷_, _++_, List·Memᴰ}
 use Prim.Native.Nat.{ℕ}
 use native.Mathlib.Decide.{ℕ-discrete}
 use Rattle.laws.proofs.Sets.{on-cons}
-use Rattle.lent.specs.Maps.{tokensIn}
+use Rattle.maps.specs.Maps.{tokensIn}
 use Rattle.answer.specs.Answer.{numberIn}
 use Rattle.demands.specs.Calls.{Call, instant, run, Meets, InTurn, then, Answered, answeredBy, Answers, one, refused, those}
 use Rattle.demands.specs.Calls as calls

@@ -21,10 +21,11 @@ use Rattle.tcc.specs.Instant as state
 use Rattle.tcc.specs.Confluence.{QuietAs, EndsAs}
 use Rattle.tcc.proofs.SameAnswer.{SameAnswer}
 use Rattle.format.specs.Decode.{decode}
-use Rattle.lent.specs.Maps.{tokensIn, mapOf}
 use Rattle.lent.specs.States.{stateOf, asBytes, SameState}
-use Rattle.lent.proofs.Round.{asBytes-same, mapOf-same, map-round}
+use Rattle.lent.proofs.Round.{asBytes-same}
 use Rattle.lent.proofs.SameState.{state-running, state-aborted}
+use Rattle.maps.specs.Maps.{tokensIn, mapOf}
+use Rattle.maps.proofs.Round.{mapOf-same, map-round}
 use Rattle.journal.specs.History as journal
 use Rattle.journal.proofs.Rising.{rising-map, output-same}
 use Rattle.demands.specs.Calls.{Answered}

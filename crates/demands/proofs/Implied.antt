@@ -23,10 +23,10 @@ use Rattle.tcc.specs.Chain.{Chain, none, then}
 use Rattle.tcc.specs.declared.Agent.the-variants.{Next}
 use Rattle.tcc.proofs.Order.{Done, order-ran}
 use Rattle.format.specs.Decode.{decode}
-use Rattle.lent.specs.Maps.{tokensIn}
 use Rattle.lent.specs.States.{agentsIn, asBytes, LawfulState}
 use Rattle.lent.proofs.Round.{state-round}
 use Rattle.lent.proofs.SameState.{state-running}
+use Rattle.maps.specs.Maps.{tokensIn}
 use Rattle.instant.specs.InstantCall.{Lent}
 use Rattle.parts.specs.Instants.{inputLists}
 use Rattle.run.specs.RunCall.{Lent as RunLent}

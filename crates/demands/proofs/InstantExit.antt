@@ -17,8 +17,8 @@ use Rattle.verdicts.specs.declared.Verdict.{Verdict}
 use Rattle.verdicts.specs.Verdicts as verdicts
 use Rattle.verdicts.proofs.Verdicts.{number-few}
 use Rattle.scorefile.specs.Check as check
-use Rattle.lent.specs.Maps.{tokensIn}
 use Rattle.lent.specs.States.{stateFault, asBytes}
+use Rattle.maps.specs.Maps.{tokensIn}
 use Rattle.instant.specs.declared.Reply.{Reply}
 use Rattle.instant.specs.declared.Reply.the-variants.{Score as Turned, Lengths, State, Input}
 use Rattle.instant.specs.InstantCall.{Lent, Exit, lengthFault, tokenFault, kept, answered, exit}

@@ -19,9 +19,9 @@ use Rattle.tcc.specs.Instant.{output, after}
 use Rattle.format.specs.Decode.{sizes, decode}
 use Rattle.verdicts.specs.Verdicts as verdicts
 use Rattle.scorefile.specs.Check as check
-use Rattle.lent.specs.Maps.{tokensIn, mapOf}
 use Rattle.lent.specs.States.{stateFault, stateOf, asBytes, SameState}
 use Rattle.lent.proofs.Round.{state-round}
+use Rattle.maps.specs.Maps.{tokensIn, mapOf}
 use Rattle.standing.proofs.Inside.{Inside, after-lawful}
 use Rattle.instant.specs.InstantCall.{Lent, Exit, exit}
 use Rattle.journal.specs.History.{instantWords, entry}

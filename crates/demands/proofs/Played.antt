@@ -15,9 +15,10 @@ use Rattle.format.proofs.Decode.{decode-tokens, sizes-few}
 use Rattle.verdicts.specs.Verdicts as verdicts
 use Rattle.scorefile.specs.Check as check
 use Rattle.lent.specs.Lengths.{stateBytes, mapBytes, scratchBytes, noScratch}
-use Rattle.lent.specs.Maps.{tokensIn, mapOf}
 use Rattle.lent.specs.States.{stateFault}
-use Rattle.lent.proofs.Round.{asBytes-length, mapOf-length}
+use Rattle.lent.proofs.Round.{asBytes-length}
+use Rattle.maps.specs.Maps.{tokensIn, mapOf}
+use Rattle.maps.proofs.Round.{mapOf-length}
 use Rattle.instant.specs.InstantCall.{Lent, lent, lengthFault, exit}
 use Rattle.instant.proofs.Exits.{Lengths-are}
 use Rattle.journal.specs.History.{Rising}

@@ -16,7 +16,7 @@ use mathlib.Core.List.{List, [], _∷_, _++_}
 use Prim.Native.Nat.{ℕ}
 use lib.Dec.{eqb}
 use lib.ListN.{take}
-use Rattle.lent.specs.Maps.{tokensIn, mapOf}
+use Rattle.maps.specs.Maps.{tokensIn, mapOf}
 use Rattle.instant.specs.InstantCall.{Lent}
 use Rattle.parts.specs.Instants.{inputLists}
 use Rattle.run.specs.RunCall.{Lent as RunLent}

@@ -27,8 +27,8 @@ use Rattle.tcc.specs.Instant.{running}
 use Rattle.tcc.specs.Instant as state
 use Rattle.format.specs.Decode.{decode}
 use Rattle.bits.specs.Bits.{bytesOf}
-use Rattle.lent.specs.Maps.{tokensIn}
 use Rattle.lent.specs.States.{agentsIn, stateOf}
+use Rattle.maps.specs.Maps.{tokensIn}
 use Rattle.instant.specs.InstantCall.{Lent}
 use Rattle.parts.specs.Instants.{inputLists}
 use Rattle.journal.specs.History.{instantWords}

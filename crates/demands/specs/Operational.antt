@@ -15,8 +15,8 @@ use Rattle.tcc.specs.Order.{Item, End, aborted, left, Order, Finished, awakeNex
 use Rattle.tcc.specs.Instant.{output, running}
 use Rattle.tcc.specs.Instant as state
 use Rattle.format.specs.Decode.{decode}
-use Rattle.lent.specs.Maps.{mapOf}
 use Rattle.lent.specs.States.{agentsIn, stateOf, asBytes}
+use Rattle.maps.specs.Maps.{mapOf}
 use Rattle.demands.specs.Calls.{Call, InTurn, Answered, Answers}
 use Rattle.demands.specs.Determinacy.{Running}
 

@@ -22,9 +22,9 @@ use Rattle.engine.specs.declared.Outcome.{Outcome}
 use Rattle.engine.specs.Outcome.{outcomeOf}
 use Rattle.bits.specs.Bits.{bytesOf}
 use Rattle.lent.specs.Lengths.{stateBytes, mapBytes, scratchBytes, noScratch}
-use Rattle.lent.specs.Maps.{tokensIn, mapOf}
 use Rattle.lent.specs.States.{stateFault, stateOf, asBytes, runningWord, abortedWord, agentWords}
 use Rattle.lent.proofs.Lengths.{right}
+use Rattle.maps.specs.Maps.{tokensIn, mapOf}
 use Rattle.standing.proofs.Inside.{Inside}
 use Rattle.buffers.specs.HandedOver.{HandedOver}
 use Rattle.buffers.proofs.Written.{state-written, store-written, output-written}

@@ -58,7 +58,7 @@ pub fn call(
     if lent::state_fault(state, head.agents) {
         return Reply::State;
     }
-    let inputs = lent::read_map(input);
+    let inputs = maps::read_map(input);
     if bits::any_from(&inputs, head.tokens) {
         return Reply::Input;
     }

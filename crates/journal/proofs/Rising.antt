@@ -25,8 +25,8 @@ use Rattle.tcc.specs.Instant.{output}
 use Rattle.words.specs.Map.{inMap}
 use Rattle.store.specs.Flags.{setOf, flagsOf}
 use Rattle.store.proofs.Flags.{member-flag, flagsOf-member, member-flagsOf}
-use Rattle.lent.specs.Maps.{tokensIn, mapOf}
-use Rattle.lent.proofs.Round.{map-round}
+use Rattle.maps.specs.Maps.{tokensIn, mapOf}
+use Rattle.maps.proofs.Round.{map-round}
 use Rattle.journal.specs.History.{Rising, none, one, more}
 
 pub rising-tail : {T x : ℕ} {l : List ℕ} → Rising T (x ∷ l) → Rising T l

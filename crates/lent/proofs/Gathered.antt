@@ -1,17 +1,16 @@
--- Numbers gathered from flags, and buffers that they are written to.
+-- Numbers gathered from flags, and a state that they are written to.
 --     gathered              the number of the n flags of part k
+--     parts-length          so many parts are gathered as are asked for
+--     from-set              gathered from the flags of a set, or from the set
 --     stateWritten          a buffer with a first word and k words of agents written
 --     state-first, state-more, state-all     written word by word
---     mapWritten            a buffer with k bytes of a map written
---     map-more, map-all     written byte by byte
-use mathlib.Core.Path.{_≡_, refl, sym, ap, ap₂, _∙_}
+use mathlib.Core.Path.{_≡_, sym, ap, ap₂, _∙_}
 use mathlib.Core.Bool.{Bool, false}
-use mathlib.Core.List.{List, [], _∷_, _++_, map, append-nil}
-use Prim.Native.Nat.{ℕ, suc, _+_, _*_, _<_}
+use mathlib.Core.List.{List, [], _∷_, _++_, map}
+use Prim.Native.Nat.{ℕ, _+_, _*_}
 use native.Mathlib.Numerals.{add-one}
 use native.Mathlib.Omega.{arith}
-use lib.ListN.{length, getD, set, take, drop, length-map, drop-of-length-le}
-use lib.Seq.{drop-cons, set-at, append-snoc}
+use lib.ListN.{length, getD, take, drop, length-map}
 use Rattle.laws.specs.Sets.{below, has}
 use Rattle.laws.proofs.Lists.{map-snoc, map-same}
 use Rattle.laws.proofs.Sets.{below-length}
@@ -20,18 +19,16 @@ use Rattle.bits.specs.Bits.{bitsValue, bytesOf}
 use Rattle.bits.proofs.Bits.{bitsValue-same}
 use Rattle.bits.proofs.Bytes.{Written, written-more, written-all}
 use Rattle.bits.proofs.Filled.{has-set}
-use Rattle.lent.specs.Lengths.{stateBytes, mapBytes}
-use Rattle.lent.specs.Maps.{mapOf}
+use Rattle.lent.specs.Lengths.{stateBytes}
 use Rattle.lent.specs.States.{agentWords}
 
 abbrev pub gathered : ℕ → List Bool → ℕ → ℕ
 gathered n flags k = bitsValue (λ j. getD flags (n * k + j) false) n
 
-parts-length : (n k : ℕ) (flags : List Bool) → length (map (gathered n flags) (below k)) ≡ k
+pub parts-length : (n k : ℕ) (flags : List Bool) → length (map (gathered n flags) (below k)) ≡ k
 parts-length n k flags = length-map (below k) (gathered n flags) ∙ below-length k
 
--- gathered from the flags of a set, or from the set
-from-set : (n : ℕ) (flags : List Bool) (k : ℕ) → gathered n flags k ≡ bitsValue (λ j. has (n * k + j) (setOf flags)) n
+pub from-set : (n : ℕ) (flags : List Bool) (k : ℕ) → gathered n flags k ≡ bitsValue (λ j. has (n * k + j) (setOf flags)) n
 from-set n flags k = bitsValue-same _ _ n (λ j h. sym (has-set flags (n * k + j)))
 
 unfoldable pub stateWritten : ℕ → List Bool → ℕ → List ℕ → List ℕ
@@ -57,28 +54,3 @@ module _ (first : ℕ) (awake : List Bool) where
   state-all s h =
       written-all (first ∷ map (gathered 32 awake) (below 32)) s (omega (arith, parts-length 32 32 awake))
       ∙ ap (λ l. bytesOf (first ∷ l)) (map-same (gathered 32 awake) (λ k. bitsValue (λ j. has (32 * k + j) (setOf awake)) 32) (below 32) (from-set 32 awake))
-
-unfoldable pub mapWritten : List Bool → ℕ → List ℕ → List ℕ
-mapWritten flags k s = map (gathered 8 flags) (below k) ++ drop k s
-
-module _ (flags : List Bool) where
-  pub map-none : (s : List ℕ) → s ≡ mapWritten flags 0 s
-  unfolding mapWritten
-  map-none s = refl
-
-  pub map-more : (k v : ℕ) (s t : List ℕ) → k < length s → t ≡ mapWritten flags k s → v ≡ gathered 8 flags k → set t k v ≡ mapWritten flags (k + 1) s
-  unfolding mapWritten
-  map-more k v s t h e p =
-      let l : List ℕ = map (gathered 8 flags) (below k) in
-      ap₂ (λ a b. set a k b) e p
-      ∙ ap (λ r. set (l ++ r) k (gathered 8 flags k)) (drop-cons s k 0 h)
-      ∙ set-at l (getD s k 0) (drop (suc k) s) (gathered 8 flags k) k (parts-length 8 k flags)
-      ∙ sym (append-snoc l (gathered 8 flags k) (drop (suc k) s))
-      ∙ ap (λ r. r ++ drop (suc k) s) (sym (map-snoc (gathered 8 flags) (below k) k))
-      ∙ ap (λ n. map (gathered 8 flags) (below n) ++ drop n s) (sym (add-one k))
-
-  pub map-all : (s : List ℕ) → length s ≡ mapBytes → mapWritten flags 32 s ≡ mapOf (setOf flags)
-  unfolding mapWritten mapOf
-  map-all s h =
-      ap₂ _++_ (map-same (gathered 8 flags) (λ k. bitsValue (λ j. has (8 * k + j) (setOf flags)) 8) (below 32) (from-set 8 flags)) (drop-of-length-le s {i = 32} (omega arith))
-      ∙ append-nil _

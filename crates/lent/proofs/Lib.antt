@@ -1,6 +1,5 @@
 pub mod Lengths
 pub mod Agents
-pub mod Tokens
 pub mod Faults
 pub mod Gathered
 pub mod Round

@@ -1,4 +1,4 @@
--- States and maps, read back from the bytes that they are written as.
+-- States, read back from the bytes that they are written as.
 --     words-bytes        the words of the bytes of words are those words
 --     asBytes-length     the bytes of a state
 --     asBytes-same       the same agents make the same bytes
@@ -6,17 +6,14 @@
 --     state-round        bytes written for a state stand for it
 --     lawful-bytes       bytes written for a lawful state have no fault
 --     faultless-lawful   bytes without fault stand for a lawful state
---     mapOf-length       a map has 32 bytes
---     mapOf-same         the same tokens make the same map
---     map-round          the tokens in the map of a set are the set's below 256
 use mathlib.Core.Path.{_≡_, refl, sym, ap, ap₂, _∙_}
 use mathlib.Core.Bool.{Bool, true, false, cond, not, _&&_, _||_}
 use mathlib.Core.List.{List, [], _∷_, List·Memᴰ, List·Memᴰ·head, List·Memᴰ·tail, List·Memᴰ·not-nil}
 use Prim.Native.Nat.{ℕ, suc, _+_, _*_, _/_, _%_, _^_, _<_, _≤_}
-use borrow.Author.Tests.{ltb-true, lt-ltb, leb-true, le-leb}
+use borrow.Author.Tests.{leb-true, le-leb}
 use native.Mathlib.Decide.{decLt}
 use native.Mathlib.Omega.{arith}
-use lib.Dec.{eqb, leb, ltb}
+use lib.Dec.{eqb, leb}
 use lib.ListN.{length, getD, length-map}
 use lib.Pow.{shr-mod, shr-shr, split}
 use Rattle.laws.specs.Sets.{Same, below, keep, any, has}
@@ -25,16 +22,13 @@ use Rattle.laws.proofs.Lists.{map-at, map-same}
 use Rattle.laws.proofs.Sets.{Within, any-some, some-any, on-keep, keep-kept, on-cons, on-map, lt-below, has-member, member-has, has-same, below-length, below-at}
 use Rattle.tcc.specs.Instant.{State, running, aborted}
 use Rattle.words.specs.Word.{joined, words, wordAt}
-use Rattle.words.specs.Map.{inMap}
 use Rattle.bits.specs.Bits.{bitAt, bitsValue, bytesOf}
 use Rattle.bits.proofs.Bits.{bitsValue-below, bitsValue-same, bitsValue-bit}
 use Rattle.bits.proofs.Bytes.{bytesOf-length}
-use Rattle.lent.specs.Lengths.{stateBytes, mapBytes}
-use Rattle.lent.specs.Maps.{tokensIn, mapOf}
+use Rattle.lent.specs.Lengths.{stateBytes}
 use Rattle.lent.specs.States.{runningWord, abortedWord, agentsIn, stateFault, stateOf, agentWords, stateWords, asBytes, LawfulState, SameState}
 use Rattle.lent.proofs.Agents.{awakeIn, agents-within}
 use Rattle.lent.proofs.Faults.{fault-running, fault-aborted}
-use Rattle.lent.proofs.Tokens.{tokens-within}
 
 by-digits : (w x y z a b c : ℕ) → x * 2 ^ 8 + a ≡ w → y * 2 ^ 8 + b ≡ x → z * 2 ^ 8 + c ≡ y → joined a b c z ≡ w
 by-digits w x y z a b c p q r = omega arith
@@ -162,39 +156,3 @@ faultless-lawful n s e = go (eqb (wordAt s 0) abortedWord)
     go : (b : Bool) → LawfulState n (cond b aborted (running (agentsIn s)))
     go true = tt
     go false = λ i m. below-n i m (decLt i n)
-
--- ---- maps
-
-abbrev byte : List ℕ → ℕ → ℕ
-byte l k = bitsValue (λ j. has (8 * k + j) l) 8
-
-pub mapOf-length : (l : List ℕ) → length (mapOf l) ≡ mapBytes
-unfolding mapOf
-mapOf-length l = length-map (below 32) (byte l) ∙ below-length 32
-
-pub mapOf-same : {a b : List ℕ} → Same a b → mapOf a ≡ mapOf b
-unfolding mapOf
-mapOf-same {a} {b} e = map-same (byte a) (byte b) (below 32) (λ k. bitsValue-same _ _ 8 (λ j h. has-same (8 * k + j) e))
-
-token-round : (l : List ℕ) (t : ℕ) → t < 256 → inMap (mapOf l) t ≡ has t l
-unfolding mapOf inMap
-token-round l t h =
-    let e : 8 * (t / 8) + t % 8 ≡ t = omega arith in
-    ap (λ w. bitAt w (t % 8)) (map-at (byte l) (below 32) (t / 8) 0 0 (omega (arith, below-length 32)) ∙ ap (byte l) (below-at 32 (t / 8) (omega arith)))
-    ∙ bitsValue-bit (λ j. has (8 * (t / 8) + j) l) 8 (t % 8) (omega arith)
-    ∙ ap (λ k. has k l) e
-
-pub map-round : (l : List ℕ) → Same (tokensIn (mapOf l)) (keep (λ t. ltb t 256) l)
-unfolding tokensIn
-map-round l t = (to, from)
-  where
-    to : List·Memᴰ t (keep (inMap (mapOf l)) (below 256)) → List·Memᴰ t (keep (λ u. ltb u 256) l)
-    to m =
-        let h : t < 256 = tokens-within (mapOf l) t m in
-        keep-kept (λ u. ltb u 256) (has-member t l (sym (token-round l t h) ∙ on-keep {P = λ j. inMap (mapOf l) j ≡ true} (inMap (mapOf l)) (below 256) (λ j k p. p) t m)) (lt-ltb t 256 h)
-
-    from : List·Memᴰ t (keep (λ u. ltb u 256) l) → List·Memᴰ t (keep (inMap (mapOf l)) (below 256))
-    from m =
-        let h : t < 256 = on-keep {P = λ u. u < 256} (λ u. ltb u 256) l (λ u k p. ltb-true u 256 p) t m in
-        let k : List·Memᴰ t l = on-keep {P = λ u. List·Memᴰ u l} (λ u. ltb u 256) l (λ u k p. k) t m in
-        keep-kept (inMap (mapOf l)) (lt-below 256 h) (token-round l t h ∙ member-has k)

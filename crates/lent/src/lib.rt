@@ -7,11 +7,9 @@ ghost use lib.Dec.{leb};
 ghost use Rattle.laws.specs.Sets.{any};
 ghost use Rattle.store.specs.Flags.{setOf, flagsOf};
 ghost use Rattle.bits.specs.Bits.{bytesOf};
-ghost use Rattle.lent.specs.Lengths.{stateBytes, mapBytes};
-ghost use Rattle.lent.specs.Maps.{tokensIn, mapOf};
+ghost use Rattle.lent.specs.Lengths.{stateBytes};
 ghost use Rattle.lent.specs.States.{agentsIn, stateFault, agentWords};
 use store::Agents;
-use store::Tokens;
 
 // The bytes of a state, of a map and of the scratch.
 pub const STATE_BYTES: usize = 132;
@@ -42,29 +40,6 @@ pub fn read_agents(state: &[u8]) -> Agents
     flags
 }
 
-// The tokens in a map, as flags.
-pub fn read_map(map: &[u8]) -> Tokens
-    requires { ⌜ length (now map) ≡ mapBytes ⌝ }
-    ensures { λ r. ⌜ r ≡ flagsOf 256 (tokensIn (now (map .entry))) ⌝ }
-{
-    let mut flags = [false; 256];
-    let mut k = 0;
-    while k < 32 {
-        let w = widen(map[k]);
-        if w != 0 {
-            bits::spread(&mut flags, 8 * k, w, 8);
-        }
-        k += 1;
-    }
-    flags
-}
-
-fn widen(x: u8) -> u32
-    ensures { λ r. ⌜ r ≡ x ⌝ }
-{
-    x as u32
-}
-
 // Writes a state: its first word, and the agents awake, all of them below `agents`.
 pub fn write_state(state: &mut [u8], first: u32, agents: usize, awake: Agents)
     requires { ⌜ length (now state) ≡ stateBytes ⌝ }
@@ -76,20 +51,6 @@ pub fn write_state(state: &mut [u8], first: u32, agents: usize, awake: Agents)
     while k < 32 {
         let w = bits::gather(&awake, agents, 32 * k, 32);
         bits::put_word(state, 1 + k, w);
-        k += 1;
-    }
-}
-
-// Writes a map: the tokens of a set, all of them below `tokens`.
-pub fn write_map(map: &mut [u8], tokens: usize, set: Tokens)
-    requires { ⌜ length (now map) ≡ mapBytes ⌝ }
-    requires { ⌜ ((i : ℕ) → tokens ≤ i → getD set i false ≡ false) ⌝ }
-    ensures { λ _. ⌜ now (map .exit) ≡ mapOf (setOf set) ⌝ }
-{
-    let mut k = 0;
-    while k < 32 {
-        let w = bits::gather(&set, tokens, 8 * k, 8);
-        map[k] = w as u8;
         k += 1;
     }
 }

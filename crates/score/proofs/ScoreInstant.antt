@@ -26,8 +26,8 @@ use Rattle.verdicts.specs.Verdicts as verdicts
 use Rattle.verdicts.proofs.Verdicts.{number-few, verdict-settled}
 use Rattle.scorefile.specs.Check.{verdict}
 use Rattle.scorefile.proofs.Values.{verdict-small}
-use Rattle.lent.specs.Maps.{tokensIn}
 use Rattle.lent.specs.States.{stateFault, stateOf, asBytes}
+use Rattle.maps.specs.Maps.{tokensIn}
 use Rattle.instant.specs.declared.Reply.{Reply as Replied}
 use Rattle.instant.specs.declared.Reply.the-variants.{Score as Turned, Lengths, State, Input, Next, Settled}
 use Rattle.instant.specs.InstantCall.{Lent, Exit, lengthFault, tokenFault, kept, exit, InstantCall}

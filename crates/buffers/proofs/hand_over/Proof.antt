@@ -11,9 +11,9 @@ use Rattle.format.specs.Decode.{decode}
 use Rattle.format.proofs.Decode.{decode-tokens}
 use Rattle.store.specs.Flags.{setOf}
 use Rattle.bits.specs.Bits.{bytesOf}
-use Rattle.lent.specs.Maps.{mapOf}
 use Rattle.lent.specs.States.{agentWords}
-use Rattle.lent.proofs.Round.{mapOf-same}
+use Rattle.maps.specs.Maps.{mapOf}
+use Rattle.maps.proofs.Round.{mapOf-same}
 use Rattle.standing.proofs.Ports.{output-below}
 use Rattle.standing.proofs.Inside.{flags-back, flags-known}
 use Rattle.buffers.proofs.hand_over.Statement.{statement}

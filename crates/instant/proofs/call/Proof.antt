@@ -18,10 +18,10 @@ use Rattle.scorefile.proofs.Stages as stages
 use Rattle.store.specs.Flags.{setOf}
 use Rattle.engine.specs.Outcome.{outcomeOf}
 use Rattle.bits.proofs.Filled.{none-from, from-none}
-use Rattle.lent.specs.Maps.{tokensIn}
 use Rattle.lent.specs.States.{stateFault, stateOf, LawfulState}
 use Rattle.lent.proofs.Round.{faultless-lawful}
-use Rattle.lent.proofs.Tokens.{tokens-set}
+use Rattle.maps.specs.Maps.{tokensIn}
+use Rattle.maps.proofs.Tokens.{tokens-set}
 use Rattle.standing.proofs.Inside.{Inside, answer-inside, next-lawful, flags-known}
 use Rattle.instant.specs.InstantCall.{Lent, lent, lengthFault, tokenFault}
 use Rattle.instant.proofs.Exits.{turned, lengths, state, input, settled, Lengths-are, right-lengths, handed}

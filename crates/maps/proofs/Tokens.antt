@@ -17,7 +17,7 @@ use Rattle.store.specs.Flags.{setOf, flagsOf}
 use Rattle.bits.specs.Bits.{bitAt}
 use Rattle.bits.specs.Spread.{Spread}
 use Rattle.bits.proofs.Filled.{Upto, upto-spread, upto-flags, set-kept}
-use Rattle.lent.specs.Maps.{tokensIn}
+use Rattle.maps.specs.Maps.{tokensIn}
 
 pub token-byte : (m : List ℕ) (k j : ℕ) → j < 8 → bitAt (getD m k 0) j ≡ inMap m (8 * k + j)
 unfolding inMap

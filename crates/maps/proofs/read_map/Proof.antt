@@ -1,4 +1,4 @@
--- `lent::read_map`: the flags below 8 k are set.
+-- `maps::read_map`: the flags below 8 k are set.
 use Rattle.words.specs.Map.{inMap}
 use mathlib.Core.List.{List}
 use mathlib.Core.Bool.{Bool}
@@ -10,9 +10,9 @@ use borrow.Author.Needs.{needs}
 use native.Mathlib.Omega.{arith}
 use lib.ListN.{length}
 use Rattle.bits.proofs.Filled.{Upto, upto-none, spread-zero}
-use Rattle.lent.proofs.Tokens.{tokens-flags, tokens-more}
-use Rattle.lent.proofs.read_map.Statement.{statement}
-use Rattle.lent.proofs.read_map.Tie as tie
+use Rattle.maps.proofs.Tokens.{tokens-flags, tokens-more}
+use Rattle.maps.proofs.read_map.Statement.{statement}
+use Rattle.maps.proofs.read_map.Tie as tie
 
 abbrev Inv-loop : tie.InvT-loop
 Inv-loop map flags₀ k₀ flags k = (k ≤ 32) × (length flags ≡ 256) × Upto (inMap map) (8 * k) 256 flags

@@ -1,4 +1,4 @@
--- `lent::write_map`: the bytes below k are written.
+-- `maps::write_map`: the bytes below k are written.
 use mathlib.Core.Bool.{Bool}
 use Rattle.bits.specs.Bits.{bitsValue}
 use Rattle.bits.proofs.Bits.{bitsValue-below}
@@ -8,9 +8,9 @@ use borrow.Author.Needs.{needs}
 use native.Mathlib.Omega.{arith}
 use lib.ListN.{length, length-set}
 use lib.Pow.{pow-mono}
-use Rattle.lent.proofs.Gathered.{mapWritten, map-none, map-more, map-all}
-use Rattle.lent.proofs.write_map.Statement.{statement}
-use Rattle.lent.proofs.write_map.Tie as tie
+use Rattle.maps.proofs.Written.{mapWritten, map-none, map-more, map-all}
+use Rattle.maps.proofs.write_map.Statement.{statement}
+use Rattle.maps.proofs.write_map.Tie as tie
 
 -- a number of at most 8 bits is a byte
 few-bits : (n w : ℕ) (f : ℕ → Bool) → w ≡ bitsValue f n → n ≤ 8 → w < 256
