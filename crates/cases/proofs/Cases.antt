@@ -15,7 +15,7 @@ use Rattle.tcc.specs.Unguarded.{metFrom, circular}
 use Rattle.tcc.specs.Instant.{running, reached, instant, output, answer, answers}
 use Rattle.words.specs.Word.{words, wordAt, field}
 use Rattle.words.specs.Map.{inMap}
-use Rattle.format.specs.Format.{isWord, decodeAgent}
+use Rattle.format.specs.Format.{isWord, decodeAgent, isRule}
 use Rattle.format.specs.Decode.{sizes, decode}
 use Rattle.verdicts.specs.declared.Verdict.the-variants.{Length}
 use Rattle.verdicts.specs.Verdicts.{numberOf}
@@ -82,7 +82,7 @@ unfolding field inMap tokensIn
 token-4 = some-any (λ t. leb 4 t) (keep-kept (inMap (input-with 0x10)) (lt-below 256 {i = 4} (omega arith)) refl) refl
 
 sample-accepted : numberOf (verdict (bytes sample)) ≡ 0
-unfolding fires firing closeWithin close metFrom circular words field isWord decodeAgent decode wordVerdict firstFault circleFrom verdict
+unfolding fires firing closeWithin close metFrom circular words field isWord decodeAgent isRule decode wordVerdict firstFault circleFrom verdict
 sample-accepted = refl
 
 state-refused : Holds (turned-down sample (state-with 0x20) (input-with 0) State)
@@ -117,7 +117,7 @@ abbrev ran : List ℕ → ℕ → Stop → Ran
 ran written n stop = record { words = written; state = bytes (state-with 0x4); instants = n; stop = stop }
 
 pub marked : Marked
-unfolding fires firing closeWithin close metFrom circular reached instant output answer answers words field isWord decodeAgent decode wordVerdict firstFault circleFrom verdict bitsValue bytesOf agentWords asBytes upTo instantsIn tokensOf inputLists instantWords playOn
+unfolding fires firing closeWithin close metFrom circular reached instant output answer answers words field isWord decodeAgent isRule decode wordVerdict firstFault circleFrom verdict bitsValue bytesOf agentWords asBytes upTo instantsIn tokensOf inputLists instantWords playOn
 marked = (
   refl,
   (

@@ -24,7 +24,7 @@ use Rattle.words.specs.Word.{field, words, wordAt}
 use Rattle.format.specs.declared.Sizes.{Sizes}
 use Rattle.format.specs.declared.Decoded.{Decoded}
 use Rattle.format.specs.declared.Decoded.the-variants.{Whole, Malformed}
-use Rattle.format.specs.Format.{isWord, agentIn, decodeAgent}
+use Rattle.format.specs.Format.{isWord, agentIn, decodeAgent, isRule, ruleOf}
 use Rattle.format.specs.Decode.{sizes, decode}
 use Rattle.format.proofs.Decode.{decode-agent, decode-root, decode-agents}
 use Rattle.verdicts.specs.declared.Verdict.{Verdict}
@@ -160,7 +160,7 @@ module _ (s : List ℕ) (f : Faultless s) where
   ports-ordered = ltb-false (field (wordAt s 1) 8 8) (field (wordAt s 1) 0 8) (ports-fine .not-astray)
 
   pub rules-known : (k : ℕ) → 2 + sizes s .agents + sizes s .procedures ≤ k → k < length (words s) → let w = wordAt s k in
-      (t : ℕ) → List·Memᴰ t (field w 0 8 ∷ field w 8 8 ∷ field w 16 8 ∷ []) → t < sizes s .tokens
+      (t : ℕ) → List·Memᴰ t (ruleOf w .conclusion ∷ ruleOf w .premises) → t < sizes s .tokens
   rules-known k le lt =
       let w = wordAt s k in
-      fine (sizes s) k (isWord 2 24 w) (field w 0 8 ∷ field w 8 8 ∷ field w 16 8 ∷ []) false (rule-accepted k le lt) .known
+      fine (sizes s) k (isRule w) (ruleOf w .conclusion ∷ ruleOf w .premises) false (rule-accepted k le lt) .known

@@ -5,6 +5,8 @@
 --     formed         an agent, if its word has no unnamed bit set
 --     decodeAgent    an agent word's agent, or that no agent has this form
 --     agentOf        the agent; skip where there is none
+--     isFact         whether a rule word says a standing fact
+--     isRule         a rule word, with no unnamed bit set
 --     ruleOf         a rule word's rule
 use mathlib.Core.Bool.{Bool, cond, _&&_}
 use mathlib.Core.List.{[], _∷_}
@@ -49,5 +51,14 @@ agentIn Malformed = Skip
 abbrev pub agentOf : ℕ → Agent
 agentOf w = agentIn (decodeAgent w)
 
+-- "a rule word with bit 27 set"
+abbrev pub isFact : ℕ → Bool
+isFact w = eqb (field w 27 1) 1
+
+-- of a fact "its bits 23 to 8 are then zero", and bits 26 to 24 have no name
+unfoldable pub isRule : ℕ → Bool
+isRule w = cond (isFact w) (eqb (kind w) 2 && eqb (field w 8 19) 0) (isWord 2 24 w)
+
+-- of a fact "its conclusion holds with no premise"
 abbrev pub ruleOf : ℕ → Rule ℕ
-ruleOf w = record { premises = field w 8 8 ∷ field w 16 8 ∷ []; conclusion = field w 0 8 }
+ruleOf w = record { premises = cond (isFact w) [] (field w 8 8 ∷ field w 16 8 ∷ []); conclusion = field w 0 8 }

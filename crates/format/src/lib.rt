@@ -3,7 +3,7 @@ ghost use Prim.Native.Nat.{_+_, _<_};
 ghost use lib.ListN.{length};
 ghost use Rattle.tcc.specs.Score.{agentAt, rootOf};
 ghost use Rattle.words.specs.Word.{words, field};
-ghost use Rattle.format.specs.Format.{clear, isWord, sizesOf, formed, decodeAgent};
+ghost use Rattle.format.specs.Format.{clear, isWord, sizesOf, formed, decodeAgent, isFact, isRule};
 ghost use Rattle.format.specs.Decode.{sizes, decode};
 use tcc::Agent;
 
@@ -43,6 +43,24 @@ pub fn is_word(w: u32, kind: u32, named: u32) -> bool
     ensures { λ r. ⌜ r ≡ isWord kind named w ⌝ }
 {
     words::bits(w, 28, 4) == kind && is_clear(w, named)
+}
+
+// Whether a rule word says a standing fact: a rule with no premise.
+pub fn is_fact(w: u32) -> bool
+    ensures { λ r. ⌜ r ≡ isFact w ⌝ }
+{
+    words::bits(w, 27, 1) == 1
+}
+
+// Whether a word is a rule, with no unnamed bit set; a fact has no bits for premises.
+pub fn is_rule(w: u32) -> bool
+    ensures { λ r. ⌜ r ≡ isRule w ⌝ }
+{
+    if is_fact(w) {
+        (words::bits(w, 28, 4) == 2) & (words::bits(w, 8, 19) == 0)
+    } else {
+        is_word(w, 2, 24)
+    }
 }
 
 // The sizes that a head says.

@@ -16,7 +16,7 @@ use Rattle.words.proofs.Words.{words-length}
 use Rattle.format.specs.declared.Sizes.{Sizes}
 use Rattle.format.specs.declared.Decoded.{Decoded}
 use Rattle.format.specs.declared.Decoded.the-variants.{Whole, Malformed}
-use Rattle.format.specs.Format.{isWord, decodeAgent}
+use Rattle.format.specs.Format.{isWord, decodeAgent, isRule, ruleOf}
 use Rattle.format.specs.Decode.{sizes, decode}
 use Rattle.format.proofs.Decode.{sizes-few}
 use Rattle.verdicts.specs.declared.Verdict.{Verdict}
@@ -65,7 +65,7 @@ word-small h k w n le two =
     either-small (ltb k 2) (at-small h k (isWord 11 16 w) (field w 0 8 ∷ field w 8 8 ∷ []) (ltb (field w 8 8) (field w 0 8)) n le)
     (either-small (ltb k (2 + h .agents)) (agent-small h (k - 2) (decodeAgent w) n (omega arith))
     (either-small (ltb k (2 + h .agents + h .procedures)) (at-small h k (isWord 3 10 w) [] (leb (h .agents) (field w 0 10)) n le)
-    (at-small h k (isWord 2 24 w) (field w 0 8 ∷ field w 8 8 ∷ field w 16 8 ∷ []) false n le)))
+    (at-small h k (isRule w) (ruleOf w .conclusion ∷ ruleOf w .premises) false n le)))
 
 fault-small : (h : Sizes) (k : ℕ) (ws : List ℕ) (n : ℕ) → k + length ws ≤ n → 2 ≤ n → Small n (firstFault h k ws)
 unfolding firstFault

@@ -9,16 +9,18 @@
 --     passing-all        past the last word the pass is done
 --     flooded-none, flooded-more     tokens brought in one by one, from 0 on
 use mathlib.Core.Path.{_≡_, refl, sym, subst}
-use mathlib.Core.Bool.{Bool, true, false, not, _&&_}
-use mathlib.Core.List.{List, List·Memᴰ, List·Memᴰ·head, List·Memᴰ·tail, Memᴰ·cast}
+use mathlib.Core.Bool.{Bool, true, false, not}
+use mathlib.Core.List.{List, List·Memᴰ, Memᴰ·cast}
 use mathlib.Core.Logic.{inl, inr, ⊎-elim, by-cases}
 use Prim.Native.Nat.{ℕ, _+_, _≤_, _<_}
 use native.Mathlib.Nat.{not-suc-le-zero}
 use native.Mathlib.Decide.{decLt}
 use native.Mathlib.Omega.{arith}
 use lib.ListN.{length, getD, set, length-set}
+use Rattle.laws.specs.Sets.{every}
 use Rattle.laws.proofs.Booleans.{and-both, true-is-false}
-use Rattle.laws.proofs.Sets.{Within, on-cons}
+use Rattle.laws.proofs.Sets.{Within, every-each, each-every}
+use Rattle.tcc.specs.Closure.{Rule}
 use Rattle.tcc.specs.Store.{Derived, by-rule}
 use Rattle.tcc.proofs.Closure.{Passes}
 use Rattle.words.specs.Word.{field, words, wordAt}
@@ -30,24 +32,21 @@ use Rattle.store.specs.Flags.{setOf}
 use Rattle.store.specs.Passes.{adds, Passed, Flooded}
 use Rattle.store.proofs.Flags.{flag-member, member-flag, set-kept, set-here, set-cases, set-longer}
 
-module _ (store : List Bool) (w : ℕ) where
-  pub adds-premises : adds store w ≡ true → Within (λ t. List·Memᴰ t (setOf store)) (ruleOf w .premises)
-  adds-premises e =
-      let both = and-both (getD store (field w 8 8) false) (getD store (field w 16 8) false) (and-both (getD store (field w 8 8) false && getD store (field w 16 8) false) _ e .0) in
-      on-cons (flag-member store (both .0)) (on-cons (flag-member store (both .1)) (λ t m. elim m [ ]))
+module _ (store : List Bool) (r : Rule ℕ) where
+  pub adds-premises : adds store r ≡ true → Within (λ t. List·Memᴰ t (setOf store)) (r .premises)
+  adds-premises e t m = flag-member store (every-each (λ p. getD store p false) m (and-both (every (λ p. getD store p false) (r .premises)) _ e .0))
 
-  pub adds-new : adds store w ≡ true → getD store (field w 0 8) false ≡ false
-  adds-new e = go (getD store (field w 0 8) false) (and-both (getD store (field w 8 8) false && getD store (field w 16 8) false) _ e .1)
+  pub adds-new : adds store r ≡ true → getD store (r .conclusion) false ≡ false
+  adds-new e = go (getD store (r .conclusion) false) (and-both (every (λ p. getD store p false) (r .premises)) _ e .1)
     where
       go : (b : Bool) → not b ≡ true → b ≡ false
       go true h = absurd (true-is-false h refl)
       go false h = refl
 
-  pub adds-nothing : adds store w ≡ false → Passes (λ t. List·Memᴰ t (setOf store)) (ruleOf w)
+  pub adds-nothing : adds store r ≡ false → Passes (λ t. List·Memᴰ t (setOf store)) r
   adds-nothing e premises =
-      let p : getD store (field w 8 8) false ≡ true = member-flag store (premises _ (List·Memᴰ·head refl)) in
-      let q : getD store (field w 16 8) false ≡ true = member-flag store (premises _ (List·Memᴰ·tail (List·Memᴰ·head refl))) in
-      flag-member store (go (getD store (field w 0 8) false) (rw (p, q) at e))
+      let all : every (λ p. getD store p false) (r .premises) ≡ true = each-every (λ p. getD store p false) (r .premises) (λ t m. member-flag store (premises t m)) in
+      flag-member store (go (getD store (r .conclusion) false) (rw all at e))
     where
       go : (b : Bool) → not b ≡ false → b ≡ true
       go true h = refl
@@ -70,7 +69,7 @@ passing-none s k store start long = record {
 }
 
 module _ (s : List ℕ) (k : ℕ) (before after : List Bool) (added : ℕ) (h : Passing s k before after added) where
-  pub passing-skipped : adds after (wordAt s k) ≡ false → Passing s (k + 1) before after added
+  pub passing-skipped : adds after (ruleOf (wordAt s k)) ≡ false → Passing s (k + 1) before after added
   passing-skipped e = record {
     long = h .long;
     kept = h .kept;
@@ -78,10 +77,10 @@ module _ (s : List ℕ) (k : ℕ) (before after : List Bool) (added : ℕ) (h : 
     larger = h .larger;
     settled = λ still j from lt. by-cases (decLt j k)
         (λ l. h .settled still j from l)
-        (λ g. let here : k ≡ j = omega arith in subst (λ i. Passes (λ t. List·Memᴰ t (setOf after)) (ruleOf (wordAt s i))) here (adds-nothing after (wordAt s k) e));
+        (λ g. let here : k ≡ j = omega arith in subst (λ i. Passes (λ t. List·Memᴰ t (setOf after)) (ruleOf (wordAt s i))) here (adds-nothing after (ruleOf (wordAt s k)) e));
   }
 
-  pub passing-added : rulesFrom s ≤ k → k < length (words s) → adds after (wordAt s k) ≡ true → Passing s (k + 1) before (set after (field (wordAt s k) 0 8) true) (added + 1)
+  pub passing-added : rulesFrom s ≤ k → k < length (words s) → adds after (ruleOf (wordAt s k)) ≡ true → Passing s (k + 1) before (set after (field (wordAt s k) 0 8) true) (added + 1)
   passing-added from within e =
       let token = field (wordAt s k) 0 8 in
       let room : token < length after = omega (arith, h .long, field-below (wordAt s k) 0 8) in
@@ -89,10 +88,10 @@ module _ (s : List ℕ) (k : ℕ) (before after : List Bool) (added : ℕ) (h : 
         long = let l : length after ≡ 256 = h .long in omega (arith, length-set after token true);
         kept = λ t m. set-kept after token (h .kept t m);
         derived = λ given start t m. ⊎-elim
-            (λ (q : t ≡ token). by-rule (ruleOf (wordAt s k)) (rule-member s k from within) (λ p m′. h .derived given start p (adds-premises after (wordAt s k) e p m′)) (sym q))
+            (λ (q : t ≡ token). by-rule (ruleOf (wordAt s k)) (rule-member s k from within) (λ p m′. h .derived given start p (adds-premises after (ruleOf (wordAt s k)) e p m′)) (sym q))
             (λ (m′ : List·Memᴰ t (setOf after)). h .derived given start t m′)
             (set-cases after token m);
-        larger = let l = h .larger in omega (arith, set-longer after token room (adds-new after (wordAt s k) e));
+        larger = let l = h .larger in omega (arith, set-longer after token room (adds-new after (ruleOf (wordAt s k)) e));
         settled = λ still j f lt. absurd (omega arith);
       }
 

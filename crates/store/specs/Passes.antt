@@ -1,5 +1,5 @@
 -- Contracts of inner functions: what the parts of the closure do to a store that is kept as flags.
---     adds           whether a rule word's rule adds its conclusion: its premises are in, the conclusion is not
+--     adds           whether a rule adds its conclusion: its premises are in, the conclusion is not
 --     Passed         a pass over the rules: what was in stays, what comes in derives from it, and how many did; if none
 --                    did, the store is closed under the rules
 --     Flooded        the tokens below n come in, and no others
@@ -9,14 +9,14 @@ use mathlib.Core.List.{List, List·Memᴰ}
 use mathlib.Core.Logic.{_⊎_}
 use Prim.Native.Nat.{ℕ, _+_, _<_, _≤_}
 use lib.ListN.{length, getD}
+use Rattle.laws.specs.Sets.{every}
 use Rattle.tcc.specs.Closure.{Rule}
 use Rattle.tcc.specs.Score.{Score}
 use Rattle.tcc.specs.Store.{Derived}
-use Rattle.words.specs.Word.{field}
 use Rattle.store.specs.Flags.{setOf}
 
-abbrev pub adds : List Bool → ℕ → Bool
-adds store w = (getD store (field w 8 8) false && getD store (field w 16 8) false) && not (getD store (field w 0 8) false)
+abbrev pub adds : List Bool → Rule ℕ → Bool
+adds store r = every (λ p. getD store p false) (r .premises) && not (getD store (r .conclusion) false)
 
 pub record Passed (sc : Score) (before after : List Bool) (added : ℕ) : Type 0 where
   pub long : length after ≡ 256

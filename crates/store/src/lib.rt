@@ -2,6 +2,7 @@ ghost use mathlib.Core.Path.{_≡_};
 ghost use Prim.Native.Nat.{_+_, _≤_};
 ghost use lib.ListN.{length};
 ghost use Rattle.tcc.specs.Store.{closure};
+ghost use Rattle.format.specs.Format.{ruleOf};
 ghost use Rattle.format.specs.Decode.{sizes, decode};
 ghost use Rattle.format.specs.Playable.{Playable};
 ghost use Rattle.store.specs.Flags.{setOf, flagsOf};
@@ -51,11 +52,14 @@ fn rule_pass(s: &[u8], from: usize, store: &mut Tokens) -> usize
 
 // Whether the rule of a word adds its conclusion to a store.
 fn adds_token(store: &Tokens, w: u32) -> bool
-    ensures { λ r. ⌜ r ≡ adds (now (store .entry)) w ⌝ }
+    ensures { λ r. ⌜ r ≡ adds (now (store .entry)) (ruleOf w) ⌝ }
 {
     let token = format::number(w, 0, 8);
     if store[token] {
         return false;
+    }
+    if format::is_fact(w) {
+        return true;
     }
     let first = format::number(w, 8, 8);
     if store[first] {

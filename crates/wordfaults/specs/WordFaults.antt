@@ -13,7 +13,7 @@ use Rattle.words.specs.Word.{field}
 use Rattle.format.specs.declared.Sizes.{Sizes}
 use Rattle.format.specs.declared.Decoded.{Decoded}
 use Rattle.format.specs.declared.Decoded.the-variants.{Whole, Malformed}
-use Rattle.format.specs.Format.{isWord}
+use Rattle.format.specs.Format.{isWord, isRule, ruleOf}
 use Rattle.verdicts.specs.declared.Verdict.{Verdict}
 use Rattle.verdicts.specs.declared.Verdict.the-variants.{Accepted, Form, Token, Reference}
 
@@ -33,4 +33,4 @@ abbrev pub rootVerdict : Sizes → ℕ → ℕ → Verdict
 rootVerdict h k w = atWord h k (isWord 3 10 w) [] (leb (h .agents) (field w 0 10))
 
 abbrev pub ruleVerdict : Sizes → ℕ → ℕ → Verdict
-ruleVerdict h k w = atWord h k (isWord 2 24 w) (field w 0 8 ∷ field w 8 8 ∷ field w 16 8 ∷ []) false
+ruleVerdict h k w = atWord h k (isRule w) (ruleOf w .conclusion ∷ ruleOf w .premises) false

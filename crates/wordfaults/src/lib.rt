@@ -106,11 +106,14 @@ pub fn root_verdict(sizes: Sizes, k: usize, w: u32) -> Verdict
 pub fn rule_verdict(sizes: Sizes, k: usize, w: u32) -> Verdict
     ensures { λ r. ⌜ r ≡ ruleVerdict sizes k w ⌝ }
 {
-    if !format::is_word(w, 2, 24) {
+    if !format::is_rule(w) {
         return Verdict::Form(k);
     }
     if sizes.tokens <= format::number(w, 0, 8) {
         return Verdict::Token(k);
+    }
+    if format::is_fact(w) {
+        return Verdict::Accepted;
     }
     if sizes.tokens <= format::number(w, 8, 8) {
         return Verdict::Token(k);

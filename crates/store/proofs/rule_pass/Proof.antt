@@ -8,6 +8,7 @@ use native.Mathlib.Omega.{arith}
 use lib.ListN.{length, set}
 use Rattle.words.specs.Word.{field, words}
 use Rattle.words.proofs.Field.{field-below}
+use Rattle.format.specs.Format.{ruleOf}
 use Rattle.format.proofs.Decode.{rulesFrom}
 use Rattle.store.specs.Passes.{adds}
 use Rattle.store.proofs.Flags.{set-length-le}
@@ -58,7 +59,7 @@ loop-again c =
     let l = c .before .before .before .before .before .loop in
     let s = b .args .s .now in
     let word = c .before .before .before .word-at .ensures in
-    let answer = c .before .adds-token .ensures ∙ ap (adds (l .store)) word in
+    let answer = c .before .adds-token .ensures ∙ ap (λ x. adds (l .store) (ruleOf x)) word in
     ⊎-elim
     (λ w. rw (w .2, w .3) (
       l .inv .0,

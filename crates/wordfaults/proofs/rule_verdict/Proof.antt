@@ -1,42 +1,61 @@
--- `wordfaults::rule_verdict`: the form, then the three tokens.
-use mathlib.Core.Path.{sym, _∙_}
-use mathlib.Core.Bool.{false}
-use mathlib.Core.List.{[], _∷_}
+-- `wordfaults::rule_verdict`: the form, then the conclusion, then of a rule that is no fact its premises.
+use mathlib.Core.Path.{_≡_, sym, _∙_}
+use mathlib.Core.Bool.{true, false}
+use mathlib.Core.List.{_∷_}
 use native.Mathlib.Omega.{arith}
 use borrow.Author.Tests.{le-leb, lt-leb, not-true, not-false}
-use Rattle.words.specs.Word.{field}
 use borrow.Author.Needs.{needs}
+use Rattle.words.specs.Word.{field}
+use Rattle.format.specs.Format.{isFact, isRule, ruleOf}
 use Rattle.wordfaults.proofs.AtWord.{form-first}
 use Rattle.wordfaults.proofs.rule_verdict.Statement.{statement}
 use Rattle.wordfaults.proofs.rule_verdict.Tie as tie
 
-is-word-requires : tie.Need-is-word-requires
-is-word-requires c κs = search needs
+is-rule-requires : tie.Need-is-rule-requires
+is-rule-requires c κs = search needs
 
 returns : tie.Need-returns
 returns c =
     let b = c .before .before .args in
-    form-first (b .sizes) (b .k) (field (b .w) 0 8 ∷ field (b .w) 8 8 ∷ field (b .w) 16 8 ∷ []) false (sym (c .before .is-word .ensures) ∙ not-true _ (c .if1 .taken))
+    form-first (b .sizes) (b .k) (ruleOf (b .w) .conclusion ∷ ruleOf (b .w) .premises) false (sym (c .before .is-rule .ensures) ∙ not-true _ (c .if1 .taken))
 
 number-requires : tie.Need-number-requires
 number-requires c κs = search needs
 
+-- the word is a rule
+formed : (c : tie.Else1) → isRule (c .before .before .args .w) ≡ true
+formed c = sym (c .before .is-rule .ensures) ∙ not-false _ (c .if1 .left)
+
 returns-2 : tie.Need-returns-2
 returns-2 c =
     let b = c .before .before .before .before .before in
+    rw (formed (c .before .before .before), le-leb (b .args .sizes .tokens) (field (b .args .w) 0 8) (omega arith))
+
+is-fact-requires : tie.Need-is-fact-requires
+is-fact-requires c κs = search needs
+
+returns-3 : tie.Need-returns-3
+returns-3 c =
+    let b = c .before .before .before .before .before .before .before in
     rw (
-      sym (c .before .before .before .before .is-word .ensures) ∙ not-false _ (c .before .before .before .if1 .left),
-      le-leb (b .args .sizes .tokens) (field (b .args .w) 0 8) (omega arith),
+      formed (c .before .before .before .before .before),
+      sym (c .before .is-fact .ensures) ∙ c .if3 .taken,
+      lt-leb (b .args .sizes .tokens) (field (b .args .w) 0 8) (omega arith),
     )
+
+-- and no fact
+plain : (c : tie.Else3) → isFact (c .before .before .before .before .before .before .before .args .w) ≡ false
+plain c = sym (c .before .is-fact .ensures) ∙ c .if3 .left
 
 number-requires-2 : tie.Need-number-requires-2
 number-requires-2 c κs = search needs
 
-returns-3 : tie.Need-returns-3
-returns-3 c =
-    let b = c .before .before .before .before .before .before .before .before in
+returns-4 : tie.Need-returns-4
+returns-4 c =
+    let b = c .before .before .before .before .before .before .before .before .before .before in
     rw (
-      sym (c .before .before .before .before .before .before .before .is-word .ensures) ∙ not-false _ (c .before .before .before .before .before .before .if1 .left),
+      formed (c .before .before .before .before .before .before .before .before),
+      plain (c .before .before .before),
       lt-leb (b .args .sizes .tokens) (field (b .args .w) 0 8) (omega arith),
       le-leb (b .args .sizes .tokens) (field (b .args .w) 8 8) (omega arith),
     )
@@ -44,21 +63,23 @@ returns-3 c =
 number-requires-3 : tie.Need-number-requires-3
 number-requires-3 c κs = search needs
 
-returns-4 : tie.Need-returns-4
-returns-4 c =
-    let b = c .before .before .before .before .before .before .before .before .before .before .before in
+returns-5 : tie.Need-returns-5
+returns-5 c =
+    let b = c .before .before .before .before .before .before .before .before .before .before .before .before .before in
     rw (
-      sym (c .before .before .before .before .before .before .before .before .before .before .is-word .ensures) ∙ not-false _ (c .before .before .before .before .before .before .before .before .before .if1 .left),
+      formed (c .before .before .before .before .before .before .before .before .before .before .before),
+      plain (c .before .before .before .before .before .before),
       lt-leb (b .args .sizes .tokens) (field (b .args .w) 0 8) (omega arith),
       lt-leb (b .args .sizes .tokens) (field (b .args .w) 8 8) (omega arith),
       le-leb (b .args .sizes .tokens) (field (b .args .w) 16 8) (omega arith),
     )
 
-returns-5 : tie.Need-returns-5
-returns-5 c =
-    let b = c .before .before .before .before .before .before .before .before .before .before .before in
+returns-6 : tie.Need-returns-6
+returns-6 c =
+    let b = c .before .before .before .before .before .before .before .before .before .before .before .before .before in
     rw (
-      sym (c .before .before .before .before .before .before .before .before .before .before .is-word .ensures) ∙ not-false _ (c .before .before .before .before .before .before .before .before .before .if1 .left),
+      formed (c .before .before .before .before .before .before .before .before .before .before .before),
+      plain (c .before .before .before .before .before .before),
       lt-leb (b .args .sizes .tokens) (field (b .args .w) 0 8) (omega arith),
       lt-leb (b .args .sizes .tokens) (field (b .args .w) 8 8) (omega arith),
       lt-leb (b .args .sizes .tokens) (field (b .args .w) 16 8) (omega arith),
@@ -68,12 +89,14 @@ pub rule-verdict-spec : {M : Type 1} → statement M
 rule-verdict-spec =
     tie.close
     (tie.spec
-    is-word-requires
+    is-rule-requires
     returns
     number-requires
     returns-2
-    number-requires-2
+    is-fact-requires
     returns-3
-    number-requires-3
+    number-requires-2
     returns-4
-    returns-5)
+    number-requires-3
+    returns-5
+    returns-6)
