@@ -2,7 +2,8 @@
 --     ends-same            an end that agrees with an answer agrees with any answer that is the same
 --     quiet-status         the status by the store, as a number
 --     leaves               an end that agrees with the definition's answer gives the instant's bytes
---     ends-like            and is read off them
+--     store-back           the store map has the tokens of the definition's store
+--     ends-like            so such an end is read off the bytes
 --     from-aborted         from an aborted state nothing is reduced
 use mathlib.Core.Path.{_≡_, refl, sym, ap, subst, subst⁻¹, _∙_}
 use mathlib.Core.Bool.{Bool, true, false, cond}
@@ -91,6 +92,11 @@ module _ {score : List ℕ} {p : Answered} (h : IsInstant score p) where
     after-is = ap (λ r. r .after) (h .is) ∙ ap asBytes (quiet-after q) ∙ asBytes-same (running (now .awake)) (running (awakeNext (decode score) l)) (same-sym (q .awake));
   }
 
+  pub store-back : Same (tokensIn (p .store)) (now .store)
+  store-back =
+      let few = lawful score (h .accepted) .most-tokens in
+      subst⁻¹ (λ (r : Answered). Same (tokensIn (r .store)) (now .store)) (h .is) (map-back (now .store) (λ t m. omega (arith, instant-inside h .tokens t m)))
+
   pub ends-like : (e : End) → EndsAs (decode score) e now → EndsLike (decode score) e p
   ends-like aborted e = let holds = aborted-holds e in record {
     status = holds .status-is;
@@ -98,12 +104,10 @@ module _ {score : List ℕ} {p : Answered} (h : IsInstant score p) where
     is-aborted = state-aborted (stateOf (p .after)) (subst (λ a. SameState (stateOf (p .after)) (after a)) e (after-round h));
   }
   ends-like (left l s) q =
-      let few = lawful score (h .accepted) .most-tokens in
-      let back : Same (tokensIn (p .store)) (now .store) = subst⁻¹ (λ (r : Answered). Same (tokensIn (r .store)) (now .store)) (h .is) (map-back (now .store) (λ t m. omega (arith, instant-inside h .tokens t m))) in
       let runs = state-running (p .after) (now .awake) (subst (λ st. SameState (stateOf (p .after)) st) (quiet-after q) (after-round h)) in
       let status : p .status ≡ now .status = ap (λ r. r .status) (h .is) in
       record {
-        store = same-trans (q .store) (same-sym back);
+        store = same-trans (q .store) (same-sym store-back);
         clash = λ m. status ∙ q .clash m;
         no-clash = λ n. status ∙ q .no-clash n;
         is-running = runs .0;

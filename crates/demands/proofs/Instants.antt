@@ -9,8 +9,9 @@
 --     instant-inside       the agents and tokens of an instant are the score's
 --     after-faultless      the state after an instant has no fault
 --     after-round          it stands for the state that the definition gives
+--     sent-back            the output map has the tokens of the definition's output
 --     instant-shown        a journal shows its status, inputs and output
-use mathlib.Core.Path.{_≡_, refl, sym, ap, subst⁻¹, _∙_}
+use mathlib.Core.Path.{_≡_, refl, sym, ap, ap₂, subst⁻¹, _∙_}
 use mathlib.Core.Bool.{false}
 use mathlib.Core.List.{List}
 use Prim.Native.Nat.{ℕ}
@@ -99,10 +100,13 @@ module _ {score : List ℕ} {p : Answered} (h : IsInstant score p) where
       let a = given score (p .before) (p .inputs) in
       subst⁻¹ (λ (q : Answered). SameState (stateOf (q .after)) (after a)) (h .is) (state-round (after a) (after-lawful (decode score) a 1024 (lawful score (h .accepted) .most-agents) instant-inside))
 
-  pub instant-shown : instantWords (p .status) (p .inputs) (tokensIn (p .output)) ≡ entry (decode score) (p .inputs) (given score (p .before) (p .inputs))
-  instant-shown =
+  pub sent-back : tokensIn (p .output) ≡ output (decode score) (given score (p .before) (p .inputs) .status) (given score (p .before) (p .inputs) .store)
+  sent-back =
       let sc = decode score in
       let a = given score (p .before) (p .inputs) in
       let law = lawful score (h .accepted) in
-      ap (λ q. instantWords (q .status) (p .inputs) (tokensIn (q .output))) (h .is)
-      ∙ ap (instantWords (a .status) (p .inputs)) (rising-map (sc .tokens) (output sc (a .status) (a .store)) (law .most-tokens) (output-rising sc (a .status) (a .store) (law .ports-ordered) (law .ports-known)))
+      ap (λ q. tokensIn (q .output)) (h .is)
+      ∙ rising-map (sc .tokens) (output sc (a .status) (a .store)) (law .most-tokens) (output-rising sc (a .status) (a .store) (law .ports-ordered) (law .ports-known))
+
+  pub instant-shown : instantWords (p .status) (p .inputs) (tokensIn (p .output)) ≡ entry (decode score) (p .inputs) (given score (p .before) (p .inputs))
+  instant-shown = ap₂ (λ status sent. instantWords status (p .inputs) sent) (ap (λ q. q .status) (h .is)) sent-back

@@ -1,0 +1,9 @@
+pub mod Before
+pub mod WithoutFacts
+pub mod FactsHold
+pub mod Word
+pub mod OneMore
+pub mod Told
+pub mod Rows
+pub mod Histories
+pub mod FactForTold

@@ -1,1 +1,3 @@
+pub mod WithoutFacts
+pub mod FactsHold
 pub mod FactForTold

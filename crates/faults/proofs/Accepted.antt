@@ -1,7 +1,7 @@
 -- The facts of acceptance: what holds of a score none of whose words meets 4, 5 or 6.
 --     length-accepted, count-accepted    of a score that does not meet 1, or 3
 --     word-accepted         each word is as its place asks
---     tokens-known, parts-lower, procedures-known, roots-known, ports-known, ports-ordered, rules-known
+--     tokens-known, parts-lower, procedures-known, roots-known, ports-known, ports-ordered, rules-formed, rules-known
 --                           so the decoded score refers to nothing that it does not have
 use mathlib.Core.Path.{_≡_, refl, sym, subst, subst⁻¹, _∙_}
 use mathlib.Core.Bool.{Bool, true, false, cond, not, _||_}
@@ -159,8 +159,12 @@ module _ (s : List ℕ) (f : Faultless s) where
   pub ports-ordered : field (wordAt s 1) 0 8 ≤ field (wordAt s 1) 8 8
   ports-ordered = ltb-false (field (wordAt s 1) 8 8) (field (wordAt s 1) 0 8) (ports-fine .not-astray)
 
-  pub rules-known : (k : ℕ) → 2 + sizes s .agents + sizes s .procedures ≤ k → k < length (words s) → let w = wordAt s k in
-      (t : ℕ) → List·Memᴰ t (ruleOf w .conclusion ∷ ruleOf w .premises) → t < sizes s .tokens
-  rules-known k le lt =
-      let w = wordAt s k in
-      fine (sizes s) k (isRule w) (ruleOf w .conclusion ∷ ruleOf w .premises) false (rule-accepted k le lt) .known
+  module _ (k : ℕ) (le : 2 + sizes s .agents + sizes s .procedures ≤ k) (lt : k < length (words s)) where
+    rule-fine : let w = wordAt s k in Fine (sizes s) (isRule w) (ruleOf w .conclusion ∷ ruleOf w .premises) false
+    rule-fine = let w = wordAt s k in fine (sizes s) k (isRule w) (ruleOf w .conclusion ∷ ruleOf w .premises) false (rule-accepted k le lt)
+
+    pub rules-formed : isRule (wordAt s k) ≡ true
+    rules-formed = rule-fine .is-formed
+
+    pub rules-known : let w = wordAt s k in (t : ℕ) → List·Memᴰ t (ruleOf w .conclusion ∷ ruleOf w .premises) → t < sizes s .tokens
+    rules-known = rule-fine .known

@@ -1,15 +1,18 @@
 -- Rule words by bit 27.
 --     rule-fact          a fact's form
 --     rule-plain         the form of any other rule
+--     rule-kind          a rule word is of kind 2
 --     premises-fact      a fact has no premises
 --     premises-plain     any other rule has two
-use mathlib.Core.Path.{_≡_}
-use mathlib.Core.Bool.{true, false, _&&_}
+use mathlib.Core.Path.{_≡_, refl, sym, _∙_}
+use mathlib.Core.Bool.{Bool, true, false, _&&_}
 use mathlib.Core.List.{[], _∷_}
 use Prim.Native.Nat.{ℕ}
 use lib.Dec.{eqb}
+use borrow.Author.Tests.{eqb-true}
+use Rattle.laws.proofs.Booleans.{and-both}
 use Rattle.words.specs.Word.{field, kind}
-use Rattle.format.specs.Format.{isWord, isFact, isRule, ruleOf}
+use Rattle.format.specs.Format.{clear, isWord, isFact, isRule, ruleOf}
 
 module _ (w : ℕ) where
   pub rule-fact : isFact w ≡ true → isRule w ≡ (eqb (kind w) 2 && eqb (field w 8 19) 0)
@@ -19,6 +22,14 @@ module _ (w : ℕ) where
   pub rule-plain : isFact w ≡ false → isRule w ≡ isWord 2 24 w
   unfolding isRule
   rule-plain e = rw e
+
+  pub rule-kind : isRule w ≡ true → kind w ≡ 2
+  unfolding isWord
+  rule-kind e = go (isFact w) refl
+    where
+      go : (b : Bool) → isFact w ≡ b → kind w ≡ 2
+      go true f = eqb-true (kind w) 2 (and-both (eqb (kind w) 2) (eqb (field w 8 19) 0) (sym (rule-fact f) ∙ e) .0)
+      go false f = eqb-true (kind w) 2 (and-both (eqb (kind w) 2) (clear 24 w) (sym (rule-plain f) ∙ e) .0)
 
   pub premises-fact : isFact w ≡ true → ruleOf w .premises ≡ []
   premises-fact e = rw e

@@ -7,9 +7,10 @@
 --     history-good       its bytes have a good form
 --     history-words      its words are the words of its bytes
 --     history-instants   the instants in them are its entries
+--     history-inputs     and their inputs its own
 use mathlib.Core.Path.{_≡_, refl, ap, ap₂, subst⁻¹, _∙_}
 use mathlib.Core.Bool.{Bool, true, false, cond}
-use mathlib.Core.List.{List, [], _∷_, _++_, flatten, List·Memᴰ, List·Memᴰ·head, List·Memᴰ·tail}
+use mathlib.Core.List.{List, [], _∷_, _++_, map, flatten, List·Memᴰ, List·Memᴰ·head, List·Memᴰ·tail}
 use Prim.Native.Nat.{ℕ, _<_}
 use native.Mathlib.Omega.{arith}
 use Rattle.laws.specs.Sets.{any, has}
@@ -23,7 +24,7 @@ use Rattle.words.specs.Word.{words}
 use Rattle.bits.specs.Bits.{bytesOf}
 use Rattle.form.specs.declared.Form.the-variants.{Good}
 use Rattle.form.specs.Form.{formOf}
-use Rattle.parts.specs.Instants.{instantsIn, inputsIn}
+use Rattle.parts.specs.Instants.{instantsIn, inputsIn, inputLists}
 use Rattle.journal.specs.History.{instantWords, entry, history, Rising}
 use Rattle.journal.proofs.Rising.{output-rising, output-same}
 use Rattle.journal.proofs.Forms.{WellFormed}
@@ -77,6 +78,11 @@ module _ (sc : Score) (law : Lawful sc) where
   entries-formed st [] h = λ x m. elim m [ ]
   entries-formed st (inputs ∷ more) h = on-cons (entry-formed st inputs (h inputs (List·Memᴰ·head refl))) (entries-formed (after (answer sc st inputs)) more (λ x m. h x (List·Memᴰ·tail m)))
 
+  entries-inputs : (st : State) (inputs : List (List ℕ)) → Within (Rising (sc .tokens)) inputs → map inputsIn (entries sc st inputs) ≡ inputs
+  unfolding entries
+  entries-inputs st [] h = refl
+  entries-inputs st (inputs ∷ more) h = ap₂ _∷_ (entry-inputs st inputs (h inputs (List·Memᴰ·head refl))) (entries-inputs (after (answer sc st inputs)) more (λ x m. h x (List·Memᴰ·tail m)))
+
   module _ (st : State) (inputs : List (List ℕ)) (rising : (l : List ℕ) → List·Memᴰ l inputs → Rising (sc .tokens) l) where
     pub history-good : formOf true (sc .tokens) (bytesOf (history sc st inputs)) ≡ Good
     history-good = subst⁻¹ (λ ws. formOf true (sc .tokens) (bytesOf ws) ≡ Good) (history-joined sc st inputs) (formed-good true (sc .tokens) (law .most-tokens) (entries sc st inputs) (entries-formed st inputs rising))
@@ -86,3 +92,7 @@ module _ (sc : Score) (law : Lawful sc) where
 
     pub history-instants : instantsIn (words (bytesOf (history sc st inputs))) ≡ entries sc st inputs
     history-instants = subst⁻¹ (λ ws. instantsIn (words (bytesOf ws)) ≡ entries sc st inputs) (history-joined sc st inputs) (formed-instants true (sc .tokens) (law .most-tokens) (entries sc st inputs) (entries-formed st inputs rising))
+
+    pub history-inputs : inputLists (bytesOf (history sc st inputs)) ≡ inputs
+    unfolding inputLists
+    history-inputs = ap (map inputsIn) history-instants ∙ entries-inputs st inputs rising

@@ -7,7 +7,8 @@
 --     flags-rising, set-rising, tokensIn-rising, output-rising     the tokens flagged, those in a map and those of an output
 --     rising-set, rising-map     rising tokens come back from their flags and from their map
 --     output-same        equal stores have equal outputs
-use mathlib.Core.Path.{_≡_, refl, ap₂}
+--     output-has         a token of the store that lies in the ports is in the output
+use mathlib.Core.Path.{_≡_, refl, ap₂, subst}
 use mathlib.Core.Bool.{Bool, true, false, cond}
 use mathlib.Core.List.{List, [], _∷_, _++_, map, List·Memᴰ, List·Memᴰ·head, List·Memᴰ·tail, List·Memᴰ·cases-cons, List·Memᴰ·not-nil}
 use mathlib.Core.Logic.{⊎-elim, by-cases}
@@ -19,7 +20,7 @@ use lib.Dec.{ltb}
 use lib.ListN.{length, getD}
 use Rattle.laws.specs.Sets.{Same, below, keep, has}
 use Rattle.laws.proofs.Booleans.{true-is-false}
-use Rattle.laws.proofs.Sets.{Within, on-cons, on-append, on-keep, keep-kept, keep-agrees, below-lt, has-same, same-trans}
+use Rattle.laws.proofs.Sets.{Within, on-cons, on-append, on-keep, keep-kept, keep-agrees, map-member, below-lt, lt-below, member-has, has-same, same-trans}
 use Rattle.tcc.specs.Score.{Score}
 use Rattle.tcc.specs.Instant.{output}
 use Rattle.words.specs.Map.{inMap}
@@ -135,3 +136,11 @@ pub output-same : (sc : Score) (status : ℕ) {s t : List ℕ} → Same s t → 
 unfolding output
 output-same sc status {s} {t} e =
     keep-agrees (λ u. has u s) (λ u. has u t) (map (λ k. sc .lowest-port + k) (below (suc (sc .highest-port) - sc .lowest-port))) (λ u m. has-same u e)
+
+pub output-has : (sc : Score) (status : ℕ) {store : List ℕ} {t : ℕ} → sc .lowest-port ≤ t → t ≤ sc .highest-port → List·Memᴰ t store → List·Memᴰ t (output sc status store)
+unfolding output
+output-has sc status {store} {t} low high m =
+    let e : sc .lowest-port + (t - sc .lowest-port) ≡ t = omega arith in
+    let ports = map (λ k. sc .lowest-port + k) (below (suc (sc .highest-port) - sc .lowest-port)) in
+    let port : List·Memᴰ t ports = subst (λ u. List·Memᴰ u ports) e (map-member (λ k. sc .lowest-port + k) (lt-below (suc (sc .highest-port) - sc .lowest-port) (omega arith))) in
+    keep-kept (λ u. has u store) port (member-has m)

@@ -4,6 +4,7 @@
 --     map-at               entry i of the images is the image of entry i
 --     map-snoc             the images of a list with one member more
 --     map-same             functions that agree have the same images
+--     map-entries          so have functions that agree on the list's entries
 --     filled-more          a list that a loop fills from the front: what holds of each entry below q, and of the value
 --                          stored at q, holds of each entry below q + 1
 use mathlib.Core.Path.{_≡_, refl, ap, ap₂, subst⁻¹}
@@ -37,6 +38,10 @@ map-snoc f (y ∷ l) x = ap (λ k. f y ∷ k) (map-snoc f l x)
 pub map-same : {A B : Type 0} (f g : A → B) (l : List A) → ((x : A) → f x ≡ g x) → map f l ≡ map g l
 map-same f g [] h = refl
 map-same f g (x ∷ l) h = ap₂ _∷_ (h x) (map-same f g l h)
+
+pub map-entries : {A B : Type 0} (f g : A → B) (l : List A) (d : A) → ((i : ℕ) → i < length l → f (getD l i d) ≡ g (getD l i d)) → map f l ≡ map g l
+map-entries f g [] d h = refl
+map-entries f g (x ∷ l) d h = ap₂ _∷_ (h zero (omega arith)) (map-entries f g l d (λ i lt. h (suc i) (omega arith)))
 
 module _ {A : Type 0} (P : ℕ → A → Type 0) (l : List A) (q : ℕ) (v d : A) (within : q < length l) where
   pub filled-more : ((j : ℕ) → j < q → P j (getD l j d)) → P q v → (j : ℕ) → j < q + 1 → P j (getD (set l q v) j d)

@@ -1,10 +1,16 @@
 -- Instants from sets with the same members.
 --     SameAnswer           the same status and agents reduced; stores and agents awake with the same members
+--     answer-refl, answer-trans     it goes from an answer to itself, and on
 --     both-settled         two answers that the same marks settle are the same
---     marks-sound          what is reached from some agents and inputs are sound marks of any with the same members
---     marks-closed         and closed ones
+--     lives, store         the marks: what is reached from some agents and inputs
+--     marks-closed         they are closed
+--     marks-sound          and sound, for any agents and inputs with the same members
+--     abort-cases          an abort is live among them, or none is
+--     aborting, settling     in the one case those have the aborted answer, in the other the marks settle theirs
+--     own-aborting, own-settling     so have they themselves
+--     unaborted-settled    and the marks settle any answer that is not aborted
 --     instant-same         so agents and inputs with the same members give the same answer
-use mathlib.Core.Path.{_≡_, refl, sym, _∙_}
+use mathlib.Core.Path.{_≡_, refl, sym, ap, _∙_}
 use mathlib.Core.Bool.{Bool, true, false}
 use mathlib.Core.List.{List, List·Memᴰ}
 use Prim.Native.Nat.{ℕ}
@@ -26,7 +32,10 @@ pub record SameAnswer (a b : Answer) : Type 0 where
 pub answer-refl : (a : Answer) → SameAnswer a a
 answer-refl a = record { status = refl; store = same-refl (a .store); reduced = refl; awake = same-refl (a .awake) }
 
-both-settled : (sc : Score) (lives store : List ℕ) (a b : Answer) → Settled sc lives store a → Settled sc lives store b → SameAnswer a b
+pub answer-trans : {a b c : Answer} → SameAnswer a b → SameAnswer b c → SameAnswer a c
+answer-trans p q = record { status = p .status ∙ q .status; store = same-trans (p .store) (q .store); reduced = p .reduced ∙ q .reduced; awake = same-trans (p .awake) (q .awake) }
+
+pub both-settled : (sc : Score) (lives store : List ℕ) (a b : Answer) → Settled sc lives store a → Settled sc lives store b → SameAnswer a b
 both-settled sc lives store a b p q = record {
   status = go (has 0 store) refl;
   store = same-trans (same-sym (p .same-store)) (q .same-store);
@@ -52,13 +61,13 @@ module _ (sc : Score) {agents agents′ inputs inputs′ : List ℕ} (same : Sam
   }
 
 module _ (sc : Score) (agents inputs : List ℕ) where
-  lives : List ℕ
+  pub lives : List ℕ
   lives = liveIn (reached sc agents inputs)
 
-  store : List ℕ
+  pub store : List ℕ
   store = heldIn (reached sc agents inputs)
 
-  marks-closed : Closed sc agents inputs (Marked lives) (Marked store)
+  pub marks-closed : Closed sc agents inputs (Marked lives) (Marked store)
   unfolding lives store
   marks-closed = let c = reach sc agents inputs in let r = reached sc agents inputs in record {
     begins = λ i m. in-live r (c .begins i m);
@@ -71,8 +80,15 @@ module _ (sc : Score) (agents inputs : List ℕ) where
     clash = λ t z l. in-held r (c .clash t (held-in r z) l);
   }
 
+  pub abort-cases : {P : Type 0} → ((i : ℕ) → List·Memᴰ i lives → agentAt sc i ≡ Abort → P) → (((i : ℕ) → List·Memᴰ i lives → agentAt sc i ≡ Abort → ⊥) → P) → P
+  abort-cases {P} found none = go (any (λ i. isAbort (agentAt sc i)) lives) refl
+    where
+      go : (b : Bool) → any (λ i. isAbort (agentAt sc i)) lives ≡ b → P
+      go true e = let x = any-some (λ i. isAbort (agentAt sc i)) lives e in found (x .0) (x .1) (is-abort (agentAt sc (x .0)) (x .2))
+      go false e = none (λ i m a. true-is-false (some-any (λ k. isAbort (agentAt sc k)) m (rw a)) e)
+
   module _ {agents′ inputs′ : List ℕ} (same : Same agents agents′) (same-inputs : Same inputs inputs′) where
-    marks-sound : Sound sc agents′ inputs′ (Marked lives) (Marked store)
+    pub marks-sound : Sound sc agents′ inputs′ (Marked lives) (Marked store)
     unfolding lives store
     marks-sound =
         let c = closed-by sc (same-sym same) (same-sym same-inputs) (reach sc agents′ inputs′) in
@@ -80,21 +96,23 @@ module _ (sc : Score) (agents inputs : List ℕ) where
         let r = reached sc agents inputs in
         record { lives = λ i m. least (live i) (live-in r m); holds = λ t m. least (held t) (held-in r m) }
 
-    aborting : (i : ℕ) → List·Memᴰ i lives → agentAt sc i ≡ Abort → instant sc agents′ inputs′ ≡ abortedAnswer
+    pub aborting : (i : ℕ) → List·Memᴰ i lives → agentAt sc i ≡ Abort → instant sc agents′ inputs′ ≡ abortedAnswer
     aborting = aborts sc agents′ inputs′ lives store marks-sound
 
-    settling : ((i : ℕ) → List·Memᴰ i lives → agentAt sc i ≡ Abort → ⊥) → Settled sc lives store (instant sc agents′ inputs′)
+    pub settling : ((i : ℕ) → List·Memᴰ i lives → agentAt sc i ≡ Abort → ⊥) → Settled sc lives store (instant sc agents′ inputs′)
     settling = settles sc agents′ inputs′ lives store marks-sound (closed-by sc same same-inputs marks-closed)
 
+module _ (sc : Score) (agents inputs : List ℕ) where
+  pub own-aborting : (i : ℕ) → List·Memᴰ i (lives sc agents inputs) → agentAt sc i ≡ Abort → instant sc agents inputs ≡ abortedAnswer
+  own-aborting = aborting sc agents inputs (same-refl agents) (same-refl inputs)
+
+  pub own-settling : ((i : ℕ) → List·Memᴰ i (lives sc agents inputs) → agentAt sc i ≡ Abort → ⊥) → Settled sc (lives sc agents inputs) (store sc agents inputs) (instant sc agents inputs)
+  own-settling = settling sc agents inputs (same-refl agents) (same-refl inputs)
+
+  pub unaborted-settled : (instant sc agents inputs .status ≡ 2 → ⊥) → Settled sc (lives sc agents inputs) (store sc agents inputs) (instant sc agents inputs)
+  unaborted-settled unaborted = abort-cases sc agents inputs (λ i m a. absurd (unaborted (ap (λ x. x .status) (own-aborting i m a)))) own-settling
+
 pub instant-same : (sc : Score) {agents agents′ inputs inputs′ : List ℕ} → Same agents agents′ → Same inputs inputs′ → SameAnswer (instant sc agents inputs) (instant sc agents′ inputs′)
-instant-same sc {agents} {agents′} {inputs} {inputs′} same same-inputs = go (any (λ i. isAbort (agentAt sc i)) (lives sc agents inputs)) refl
-  where
-    go : (b : Bool) → any (λ i. isAbort (agentAt sc i)) (lives sc agents inputs) ≡ b → SameAnswer (instant sc agents inputs) (instant sc agents′ inputs′)
-    go true e =
-        let x = any-some (λ i. isAbort (agentAt sc i)) (lives sc agents inputs) e in
-        let is = is-abort (agentAt sc (x .0)) (x .2) in
-        rw (aborting sc agents inputs (same-refl agents) (same-refl inputs) (x .0) (x .1) is, aborting sc agents inputs same same-inputs (x .0) (x .1) is) (answer-refl abortedAnswer)
-    go false e =
-        let none : (i : ℕ) → List·Memᴰ i (lives sc agents inputs) → agentAt sc i ≡ Abort → ⊥ = λ i m a. true-is-false (some-any (λ k. isAbort (agentAt sc k)) m (rw a)) e in
-        both-settled sc (lives sc agents inputs) (store sc agents inputs) (instant sc agents inputs) (instant sc agents′ inputs′)
-        (settling sc agents inputs (same-refl agents) (same-refl inputs) none) (settling sc agents inputs same same-inputs none)
+instant-same sc {agents} {agents′} {inputs} {inputs′} same same-inputs = abort-cases sc agents inputs
+    (λ i m a. rw (own-aborting sc agents inputs i m a, aborting sc agents inputs same same-inputs i m a) (answer-refl abortedAnswer))
+    (λ none. both-settled sc (lives sc agents inputs) (store sc agents inputs) (instant sc agents inputs) (instant sc agents′ inputs′) (own-settling sc agents inputs none) (settling sc agents inputs same same-inputs none))
