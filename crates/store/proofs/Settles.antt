@@ -1,5 +1,6 @@
 -- When a store that is kept as flags is the closure of given tokens.
 --     Drawn              256 flags that hold the given tokens, and nothing that does not derive from them
+--     drawn-taken        so do they where facts were taken up first
 --     closed-flags       closed under the rules and the clash, they are the closure
 --     closed-calm        without token 0, closed under the rules is enough
 --     closed-clash       with it, the score's tokens all set are the closure
@@ -13,17 +14,24 @@ use Rattle.laws.proofs.Booleans.{true-is-false}
 use Rattle.laws.proofs.Sets.{Within, Among}
 use Rattle.tcc.specs.Score.{Score}
 use Rattle.tcc.specs.Lawful.{Lawful}
-use Rattle.tcc.specs.Store.{Derived, by-clash, storeRules, closure}
+use Rattle.tcc.specs.Store.{Derived, told, by-clash, storeRules, closure}
 use Rattle.tcc.proofs.Closure.{Follows}
-use Rattle.tcc.proofs.Store.{store-follows, derived-least, closure-exact}
+use Rattle.tcc.proofs.Store.{store-follows, derived-follows, derived-least, closure-exact}
 use Rattle.store.specs.Flags.{setOf, flagsOf}
-use Rattle.store.specs.Passes.{Flooded}
+use Rattle.store.specs.Passes.{FactsTaken, Flooded}
 use Rattle.store.proofs.Flags.{flag-member, member-flag, flags-settled}
 
 pub record Drawn (sc : Score) (given : List ℕ) (store : List Bool) : Type 0 where
   pub long : length store ≡ 256
   pub kept : Among given (setOf store)
   pub derived : Within (Derived sc given) (setOf store)
+
+pub drawn-taken : (sc : Score) {before middle after : List Bool} → FactsTaken sc before middle → Drawn sc (setOf middle) after → Drawn sc (setOf before) after
+drawn-taken sc {before} {middle} taken h = record {
+  long = h .long;
+  kept = λ t m. h .kept t (taken .kept t m);
+  derived = λ t m. derived-least sc (setOf middle) (Derived sc (setOf before)) (derived-follows sc (setOf before)) (taken .derived (setOf before) (λ u k. told k)) t (h .derived t m);
+}
 
 module _ (sc : Score) (given : List ℕ) where
   pub closed-flags : (store : List Bool) → Drawn sc given store → Follows (λ t. List·Memᴰ t (setOf store)) (storeRules sc) → store ≡ flagsOf 256 (closure sc given)

@@ -8,7 +8,6 @@ use native.Mathlib.Omega.{arith}
 use lib.ListN.{length, set}
 use Rattle.words.specs.Word.{field, words}
 use Rattle.words.proofs.Field.{field-below}
-use Rattle.format.specs.Format.{ruleOf}
 use Rattle.format.proofs.Decode.{rulesFrom}
 use Rattle.store.specs.Passes.{adds}
 use Rattle.store.proofs.Flags.{set-length-le}
@@ -59,7 +58,7 @@ loop-again c =
     let l = c .before .before .before .before .before .loop in
     let s = b .args .s .now in
     let word = c .before .before .before .word-at .ensures in
-    let answer = c .before .adds-token .ensures ∙ ap (λ x. adds (l .store) (ruleOf x)) word in
+    let answer = c .before .adds-token .ensures ∙ ap (adds (l .store)) word in
     ⊎-elim
     (λ w. rw (w .2, w .3) (
       l .inv .0,
@@ -71,7 +70,7 @@ loop-again c =
     (λ w. rw (w .1, w .2) (
       l .inv .0,
       omega arith,
-      passing-skipped s (l .k) (b .args .store .now) (l .store) (l .added) (l .inv .2) (sym answer ∙ w .0 .left),
+      passing-skipped s (l .k) (b .args .store .now) (l .store) (l .added) (l .inv .2) (l .inv .1) (omega arith) (sym answer ∙ w .0 .left),
     ))
     (c .if1 .came)
 
