@@ -15,7 +15,8 @@ use second::tests::{self, Category, Tests, Trial};
 use std::process::ExitCode;
 
 const CATEGORIES: &[Category<Trial>] = &[
-    ("runs with room enough", 20_000, runs::accepted),
+    ("runs with room enough", 15_000, runs::accepted),
+    ("runs of scores without facts", 5_000, runs::of_scores_without_facts),
     ("runs of special scores", 800, runs::of_special_scores),
     ("long runs", 30, runs::long),
     ("runs with any room", 10_000, runs::with_any_room),
@@ -29,7 +30,8 @@ const CATEGORIES: &[Category<Trial>] = &[
     ("runs with several faults", 10_000, runs::several_faults),
     ("runs of scores of the score check", 12_000, runs::of_checked_scores),
     ("runs split", 4_000, runs::split),
-    ("journals of runs", 20_000, journals::accepted),
+    ("journals of runs", 15_000, journals::accepted),
+    ("journals of scores without facts", 5_000, journals::of_scores_without_facts),
     ("journals of special scores", 800, journals::of_special_scores),
     ("long journals", 30, journals::long),
     ("journals with every status changed", 1_000, journals::every_status_changed),
@@ -50,6 +52,8 @@ fn test(tests: &mut Tests) {
     tests.categories(CATEGORIES, |trial, met, random, index| trial(met, random, index));
     tests.require_numbers("run", (0..=9).chain([12, 13, 15]));
     tests.require_numbers("journal check", (0..=8).chain(12..=14));
+    tests.require_facts("run");
+    tests.require_facts("journal check");
 }
 
 fn main() -> ExitCode {
