@@ -183,6 +183,18 @@ pub fn score_without_facts(random: &mut Random) -> Vec<u8> {
     build_at(random, sizes, rates).bytes()
 }
 
+/// A score that tells a token at every instant from the start state on, until it is aborted.
+pub fn telling_score(random: &mut Random) -> Vec<u8> {
+    let sizes = if random.one_in(6) { middling(random) } else { small(random) };
+    let told = token(random, sizes.tokens, 16);
+    let mut score = build(random, sizes);
+    let (root, first) = (score.procedures[0] & 0x3FF, score.agents.len() as u32);
+    score.agents.extend([words::tell(told), words::parallel(root, first)]);
+    score.procedures[0] = words::procedure(first + 1);
+    call_again(&mut score);
+    score.bytes()
+}
+
 pub fn large_score(random: &mut Random) -> Vec<u8> {
     let sizes = large(random);
     build(random, sizes).bytes()

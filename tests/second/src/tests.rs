@@ -42,6 +42,7 @@ pub struct Met {
     of_facts: BTreeMap<(&'static str, u32), u64>,
     statuses: BTreeMap<u32, u64>,
     statuses_with_facts: BTreeMap<u32, u64>,
+    facts_added: u64,
 }
 
 /// Whether a score with a fact is accepted, or the word that 4 or 5 names is a fact. Its kind is then right for its place,
@@ -70,6 +71,11 @@ impl Met {
                 *self.statuses_with_facts.entry(status).or_default() += 1;
             }
         }
+    }
+
+    /// A score was compared with itself and a fact more, which it did not have.
+    pub fn count_fact_added(&mut self) {
+        self.facts_added += 1;
     }
 }
 
@@ -131,6 +137,11 @@ impl Tests {
             let met = self.met.of_facts.get(&(call, number)).copied();
             self.require(&format!("{call}: number {number} of facts"), met);
         }
+    }
+
+    pub fn require_facts_added(&mut self) {
+        let met = self.met.facts_added;
+        self.require("a fact added", Some(met));
     }
 
     pub fn require_statuses(&mut self) {

@@ -1,6 +1,7 @@
 //! Holds the library's score_run and score_journal_check to the second engine: every answer, and every byte of every
 //! buffer.
 
+mod added_fact;
 mod calls_in_turn;
 mod cases;
 #[path = "../instant/library.rs"]
@@ -45,6 +46,7 @@ const CATEGORIES: &[Category<Trial>] = &[
     ("journals with several faults", 10_000, journals::several_faults),
     ("journals of scores of the score check", 12_000, journals::of_checked_scores),
     ("calls in turn on one state", 6_000, calls_in_turn::any_calls),
+    ("a fact added of what is always in the store", 4_000, added_fact::changes_nothing),
 ];
 
 fn test(tests: &mut Tests) {
@@ -54,6 +56,7 @@ fn test(tests: &mut Tests) {
     tests.require_numbers("journal check", (0..=8).chain(12..=14));
     tests.require_facts("run");
     tests.require_facts("journal check");
+    tests.require_facts_added();
 }
 
 fn main() -> ExitCode {
