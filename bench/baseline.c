@@ -76,10 +76,18 @@ static uint32_t agent_fault(uint32_t word, uint32_t agent, uint32_t tokens, uint
     }
 }
 
+/* The bits 26..8 of a fact are zero. */
+static uint32_t fact_fault(uint32_t word, uint32_t tokens)
+{
+    if (!is_fact(word) || word >> 8 & 0x7FFFF)
+        return SCORE_FORM;
+    return (word & 0xFF) < tokens ? SCORE_ACCEPTED : SCORE_TOKEN;
+}
+
 static uint32_t rule_fault(uint32_t word, uint32_t tokens)
 {
     if (!is_form(word, RULE, 24))
-        return SCORE_FORM;
+        return fact_fault(word, tokens);
     if ((word & 0xFF) >= tokens || (word >> 8 & 0xFF) >= tokens || (word >> 16 & 0xFF) >= tokens)
         return SCORE_TOKEN;
     return SCORE_ACCEPTED;

@@ -115,12 +115,21 @@ static void output_of(struct tokens *output, const struct score *score, const st
         output->words[i] = store->words[i] & between(i, score->lowest_port, score->highest_port);
 }
 
+static void add_facts(struct tokens *told, const struct tokens *input, const struct tokens *facts)
+{
+    uint32_t i;
+    for (i = 0; i < TOKENS_MAX / 64; i++)
+        told->words[i] = input->words[i] | facts->words[i];
+}
+
 /* One instant: changes the state to the next one. */
 static void step(const struct engine *engine, const struct score *score, const struct index *index,
                  struct state *state, const struct tokens *input, struct end *end)
 {
+    struct tokens told;
+    add_facts(&told, input, &index->facts);
     if (!state->aborted)
-        engine->instant(score, index, &state->agents, input, end);
+        engine->instant(score, index, &state->agents, &told, end);
     if (state->aborted || end->status == ABORTED) {
         memset(end, 0, sizeof *end);
         end->status = ABORTED;

@@ -10,12 +10,6 @@
 
 enum { QUIET, CLASHED, ABORTED };
 
-/* An accepted score, whose words stay where they are. */
-struct score {
-    uint32_t tokens, agents, procedures, rules, lowest_port, highest_port;
-    const uint8_t *agent_words, *procedure_words, *rule_words;
-};
-
 /* A set of agents, or of tokens. */
 struct agents {
     uint32_t words[AGENTS_MAX / 32];
@@ -25,6 +19,12 @@ struct tokens {
     uint64_t words[TOKENS_MAX / 64];
 };
 
+/* An accepted score, whose words stay where they are. Facts are among the rules. */
+struct score {
+    uint32_t tokens, agents, procedures, rules, lowest_port, highest_port;
+    const uint8_t *agent_words, *procedure_words, *rule_words;
+};
+
 /* What an instant brings about. */
 struct end {
     uint32_t status, count;
@@ -32,20 +32,22 @@ struct end {
     struct agents awake;
 };
 
-/* What an engine keeps of a score from instant to instant: the rules of each premise, as lists of the uses 2 * rule
- * and 2 * rule + 1 that end with NO_USE, and how many different premises each rule has.
+/* What an engine keeps of a score from instant to instant: the facts; the rules of each premise, as lists of the uses
+ * 2 * rule and 2 * rule + 1 that end with NO_USE, and how many different premises each rule has.
  */
 enum { NO_USE = 2 * RULES_MAX };
 
 struct index {
+    struct tokens facts;
     uint16_t first_use[TOKENS_MAX], next_use[2 * RULES_MAX];
     uint8_t premises[RULES_MAX];
 };
 
+/* An instant is given the tokens that are in the store from its start: the inputs and the facts. */
 struct engine {
     void (*prepare)(const struct score *score, struct index *index);
     void (*instant)(const struct score *score, const struct index *index, const struct agents *awake,
-                    const struct tokens *input, struct end *end);
+                    const struct tokens *told, struct end *end);
 };
 
 uint64_t call_instant(const struct engine *engine, const uint8_t *score, size_t score_len, uint8_t *state,

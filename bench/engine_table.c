@@ -1,4 +1,4 @@
-/* engine_table.c: times all calls against two engines written by hand, on five scores; and how the library's calls grow
+/* engine_table.c: times all calls against two engines written by hand, on six scores; and how the library's calls grow
  * with the score.
  */
 #define _POSIX_C_SOURCE 199309L
@@ -132,6 +132,7 @@ static const struct kind {
 } kinds[] = {
     {"60 agents", build_winches, 12},
     {"200, 40 winches", build_winches, 40},
+    {"the same, 24 facts", build_season, 40},
     {"1,000 whens", build_when_chain, 1000},
     {"256 rules", build_rule_chain, 256},
     {"deep sharing", build_deep_sharing, 1000},

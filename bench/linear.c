@@ -28,10 +28,15 @@ static void add_use(struct index *index, uint32_t token, uint32_t use)
 static void prepare(const struct score *score, struct index *index)
 {
     uint32_t i;
+    memset(&index->facts, 0, sizeof index->facts);
     for (i = 0; i < score->tokens; i++)
         index->first_use[i] = NO_USE;
     for (i = 0; i < score->rules; i++) {
         uint32_t word = word_at(score->rule_words, i), premise = premise_of(word), other = other_premise_of(word);
+        if (is_fact(word)) {
+            add_token(&index->facts, token_of(word));
+            continue;
+        }
         index->premises[i] = premise == other ? 1 : 2;
         add_use(index, premise, 2 * i);
         if (premise != other)
@@ -131,7 +136,7 @@ static int work_off(struct work *work)
     return 1;
 }
 
-static void start(struct work *work, const struct agents *awake, const struct tokens *input)
+static void start(struct work *work, const struct agents *awake, const struct tokens *told)
 {
     uint32_t i;
     memset(&work->seen, 0, sizeof work->seen);
@@ -146,7 +151,7 @@ static void start(struct work *work, const struct agents *awake, const struct to
             wake(work, 64 * i + take_lowest(&left));
     }
     for (i = 0; i < TOKENS_MAX / 64; i++) {
-        uint64_t left = input->words[i];
+        uint64_t left = told->words[i];
         while (left)
             enter(work, 64 * i + take_lowest(&left));
     }
@@ -166,13 +171,13 @@ static void wake_kept(struct work *work)
 }
 
 static void instant(const struct score *score, const struct index *index, const struct agents *awake,
-                    const struct tokens *input, struct end *end)
+                    const struct tokens *told, struct end *end)
 {
     struct work work;
     work.score = score;
     work.index = index;
     work.end = end;
-    start(&work, awake, input);
+    start(&work, awake, told);
     if (!work_off(&work)) {
         end->status = ABORTED;
         return;

@@ -9,8 +9,13 @@ struct flags {
 
 static void prepare(const struct score *score, struct index *index)
 {
-    (void)score;
-    (void)index;
+    uint32_t rule;
+    memset(&index->facts, 0, sizeof index->facts);
+    for (rule = 0; rule < score->rules; rule++) {
+        uint32_t word = word_at(score->rule_words, rule);
+        if (is_fact(word))
+            add_token(&index->facts, token_of(word));
+    }
 }
 
 /* Whether the agent, awake and not yet reduced, can be reduced now. */
@@ -57,7 +62,7 @@ static int pass_agents(const struct score *score, struct flags *flags, uint32_t 
     return *count > before;
 }
 
-/* A pass over the rules: whether a token was added. */
+/* A pass over the rules: whether a token was added. The conclusion of a fact is in the store before. */
 static int pass_rules(const struct score *score, struct flags *flags)
 {
     uint32_t rule;
@@ -72,14 +77,14 @@ static int pass_rules(const struct score *score, struct flags *flags)
 }
 
 static void read_flags(struct flags *flags, const struct score *score, const struct agents *awake,
-                       const struct tokens *input)
+                       const struct tokens *told)
 {
     uint32_t i;
     memset(flags, 0, sizeof *flags);
     for (i = 0; i < score->agents; i++)
         flags->awake[i] = (uint8_t)has_agent(awake, i);
     for (i = 0; i < score->tokens; i++)
-        flags->store[i] = (uint8_t)has_token(input, i);
+        flags->store[i] = (uint8_t)has_token(told, i);
 }
 
 static void write_end(struct end *end, const struct score *score, const struct flags *flags)
@@ -97,12 +102,12 @@ static void write_end(struct end *end, const struct score *score, const struct f
 }
 
 static void instant(const struct score *score, const struct index *index, const struct agents *awake,
-                    const struct tokens *input, struct end *end)
+                    const struct tokens *told, struct end *end)
 {
     struct flags flags;
     int changed;
     (void)index;
-    read_flags(&flags, score, awake, input);
+    read_flags(&flags, score, awake, told);
     memset(end, 0, sizeof *end);
     do {
         changed = pass_rules(score, &flags);

@@ -40,6 +40,8 @@ static uint32_t rule(uint32_t conclusion, uint32_t premise, uint32_t other)
     return 0x20000000 | conclusion | premise << 8 | other << 16;
 }
 
+static uint32_t fact(uint32_t conclusion) { return 0x28000000 | conclusion; }
+
 /* Head and ports; all tokens are at the ports. */
 static void begin(struct score_bytes *score, struct sizes sizes)
 {
@@ -151,28 +153,55 @@ static uint32_t push_winch(struct score_bytes *score, uint32_t winch, uint32_t b
     return first + 4;
 }
 
-/* With power, a winch that may go is ready; one that runs at its limit is a clash. A third of the winches are at their
- * limits, and a third may go.
+/* Behind the winches' tokens, for each pole that it stands, and that it feeds its winches. */
+static uint32_t stands(uint32_t winches, uint32_t pole) { return FIRST_WINCH + 4 * winches + 2 * pole; }
+static uint32_t feeds(uint32_t winches, uint32_t pole) { return stands(winches, pole) + 1; }
+
+/* That each pole stands is a fact; with power, one that stands feeds its winches. */
+static void push_poles(struct score_bytes *score, uint32_t winches, uint32_t poles)
+{
+    uint32_t pole;
+    for (pole = 0; pole < poles; pole++) {
+        push(score, fact(stands(winches, pole)));
+        push(score, rule(feeds(winches, pole), stands(winches, pole), POWER));
+    }
+}
+
+/* A winch that may go and is fed, by its pole or where there are no poles by the power itself, is ready; one that runs
+ * at its limit is a clash. A third of the winches are at their limits, and a third may go.
  */
-void build_winches(struct score_bytes *score, struct input_tokens *input, uint32_t winches)
+static void build_winches_on_poles(struct score_bytes *score, struct input_tokens *input, uint32_t winches,
+                                   uint32_t poles)
 {
     struct sizes sizes = {0, 0, 1, 0};
     uint32_t winch, root = 1;
-    sizes.tokens = FIRST_WINCH + 4 * winches;
+    sizes.tokens = stands(winches, poles);
     sizes.agents = 5 * winches;
     begin(score, sizes);
     push_again(score);
     for (winch = 0; winch < winches; winch++)
         root = push_winch(score, winch, root);
     push(score, procedure(root));
+    push_poles(score, winches, poles);
     input->len = 0;
     add_input(input, POWER);
     for (winch = 0; winch < winches; winch++) {
-        push(score, rule(ready(winch), go(winch), POWER));
+        push(score, rule(ready(winch), go(winch), poles ? feeds(winches, winch % poles) : (uint32_t)POWER));
         push(score, rule(0, runs(winch), limit(winch)));
         if (winch % 3 < 2)
             add_input(input, winch % 3 ? go(winch) : limit(winch));
     }
+}
+
+void build_winches(struct score_bytes *score, struct input_tokens *input, uint32_t winches)
+{
+    build_winches_on_poles(score, input, winches, 0);
+}
+
+/* For every five winches there are three poles. */
+void build_season(struct score_bytes *score, struct input_tokens *input, uint32_t winches)
+{
+    build_winches_on_poles(score, input, winches, 3 * winches / 5);
 }
 
 /* Whens one inside the other, all answered by the input. */

@@ -30,6 +30,6 @@ void build_call_chain(struct score_bytes *score);
  */
 typedef void score_builder(struct score_bytes *score, struct input_tokens *input, uint32_t size);
 
-score_builder build_winches, build_when_chain, build_rule_chain, build_deep_sharing;
+score_builder build_winches, build_season, build_when_chain, build_rule_chain, build_deep_sharing;
 
 #endif

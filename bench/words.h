@@ -17,4 +17,7 @@ static inline uint32_t word_at(const uint8_t *bytes, size_t word)
 
 static inline uint32_t kind_of(uint32_t word) { return word >> 28; }
 
+/* A rule word whose conclusion holds with no premise. */
+static inline int is_fact(uint32_t word) { return word >> 27 == (RULE << 1 | 1); }
+
 #endif

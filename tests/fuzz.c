@@ -22,6 +22,9 @@ enum { PAGE = 4096, MOST = 4 * PAGE, FILLER = 0xA5, SECONDS_A_ROUND = 60, ROUNDS
 #define BIT(number) (1u << (number))
 #define UP_TO(number) (2 * BIT(number) - 1)
 
+/* Makes a fact of a rule word. */
+#define FACT BIT(27)
+
 /* The buffers lent, those of them that may be written, and the numbers that may be answered: 11 never is, since every
  * body is an agent of the score.
  */
@@ -50,7 +53,7 @@ struct lent {
 };
 
 static uint8_t *places[BUFFERS];
-static uint64_t random_state, met[FUNCTIONS][16];
+static uint64_t random_state, met[FUNCTIONS][16], facts_met;
 
 static void require(int holds, const char *broken)
 {
@@ -89,6 +92,10 @@ static void push(struct bytes *bytes, uint32_t word)
 static uint32_t tokens_of(const struct bytes *score) { return (word_at(score, 0) & 0xFF) + 1; }
 
 static uint32_t agents_of(const struct bytes *score) { return (word_at(score, 0) >> 8 & 0x3FF) + 1; }
+
+static uint32_t procedures_of(const struct bytes *score) { return (word_at(score, 0) >> 18 & 0x3F) + 1; }
+
+static int has_token(const struct bytes *map, uint32_t token) { return map->at[token / 8] >> token % 8 & 1; }
 
 static int is_all(const uint8_t *bytes, size_t len, uint8_t value)
 {
@@ -187,6 +194,24 @@ static uint64_t judged(int function, struct lent *lent)
     return answer;
 }
 
+/* What an accepted instant has in its maps: each fact, or nothing once the score is aborted. */
+static void require_maps(const struct bytes *of, uint32_t status)
+{
+    const struct bytes *score = &of[SCORE];
+    size_t word = 2 + agents_of(score) + procedures_of(score);
+    if (status == SCORE_ABORTED) {
+        require(is_all(of[STORE].at, SCORE_MAP_BYTES, 0), "an aborted instant has a store");
+        require(is_all(of[OUTPUT].at, SCORE_MAP_BYTES, 0), "an aborted instant has an output");
+        return;
+    }
+    for (; word < score->len / 4; word++) {
+        if (!(word_at(score, word) & FACT))
+            continue;
+        require(has_token(&of[STORE], word_at(score, word) & 0xFF), "a fact is not in the store");
+        facts_met++;
+    }
+}
+
 /* An instant. Where it is accepted, so is another one on the state that it left. */
 static uint64_t judged_instant(struct lent *lent)
 {
@@ -196,6 +221,7 @@ static uint64_t judged_instant(struct lent *lent)
         return answer;
     require(score_answer_status(answer) <= SCORE_ABORTED, "a status that there is not");
     require(score_answer_count(answer) <= agents_of(&lent->of[SCORE]), "more agents were reduced than there are");
+    require_maps(lent->of, score_answer_status(answer));
     next = *lent;
     next_answer = judged(INSTANT, &next);
     require(!score_answer_number(next_answer), "the state that an instant left is refused");
@@ -207,7 +233,7 @@ static uint64_t judged_instant(struct lent *lent)
 static size_t play(struct lent *one, size_t at, struct bytes *journal)
 {
     const struct bytes *list = &one->of[INPUTS];
-    uint8_t *input = one->of[INPUT].at, *output = one->of[OUTPUT].at, *status = journal->at + journal->len;
+    uint8_t *input = one->of[INPUT].at, *status = journal->at + journal->len;
     uint32_t token;
     memset(input, 0, SCORE_MAP_BYTES);
     push(journal, word_at(list, at++));
@@ -218,7 +244,7 @@ static size_t play(struct lent *one, size_t at, struct bytes *journal)
     }
     *status |= (uint8_t)score_answer_status(judged_instant(one));
     for (token = 0; token < 256; token++)
-        if (output[token / 8] & BIT(token % 8))
+        if (has_token(&one->of[OUTPUT], token))
             push(journal, SCORE_OUTPUT_WORD | token);
     return at;
 }
@@ -258,20 +284,25 @@ static uint32_t agent_word(uint32_t agent, uint32_t tokens, uint32_t procedures,
     return word | below(high[kind]) << 10;
 }
 
-static uint32_t rule_word(uint32_t tokens)
+static uint32_t rule_word(uint32_t tokens, int is_fact)
 {
     uint32_t word = 0x20, i;
+    if (is_fact)
+        return 0x20000000 | FACT | below(tokens);
     for (i = 0; i < 3; i++)
         word = word << 8 | below(tokens);
     return word;
 }
 
-/* A score in its form. Large ones call nothing; in small ones unguarded calls may lead back. */
+/* A score in its form. Large ones call nothing; in small ones unguarded calls may lead back. Half of them have facts,
+ * which are some rules or all.
+ */
 static void make_score(struct bytes *score)
 {
     int large = one_in(12);
     uint32_t tokens = 1 + below(large ? 256 : 8), agents = 1 + below(large ? 1024 : 20), lowest = below(tokens), i;
-    uint32_t procedures = 1 + below(large ? 64 : 3), rules = below(large ? 257 : 6);
+    uint32_t procedures = 1 + below(large ? 64 : 3), rules = below(large ? 257 : 6), times = 1 + below(8);
+    int has_facts = one_in(2);
     score->len = 0;
     push(score, 0x10000000 | (tokens - 1) | (agents - 1) << 8 | (procedures - 1) << 18);
     push(score, 0xB0000000 | lowest | (lowest + below(tokens - lowest)) << 8);
@@ -280,7 +311,7 @@ static void make_score(struct bytes *score)
     for (i = 0; i < procedures; i++)
         push(score, 0x30000000 | (agents - 1 - below((agents + 1) / 2)));
     for (i = 0; i < rules; i++)
-        push(score, rule_word(tokens));
+        push(score, rule_word(tokens, has_facts && one_in(times)));
 }
 
 static void make_random(struct bytes *bytes, size_t len)
@@ -347,7 +378,7 @@ static void splice(struct bytes *bytes, const struct bytes *other)
 static void mutate(struct bytes *bytes, const struct bytes *other)
 {
     size_t len = bytes->len, at = below(len + 1);
-    uint32_t change = below(one_in(2) ? 4 : 1024);
+    uint32_t change = one_in(8) ? FACT : below(one_in(2) ? 4 : 1024);
     switch (below(len < 4 ? 3 : 6)) {
     case 0: make_random(bytes, below(one_in(8) ? MOST : 200)); break;
     case 1: splice(bytes, other); break;
@@ -410,7 +441,7 @@ static void play_round(void)
     require_check(checked, judged(JOURNAL_CHECK, &lent));
 }
 
-/* Prints how often each number was met. Over many rounds, each that may be answered must be. */
+/* Prints how often each number and a fact were met. Over many rounds, each that may be answered must be. */
 static void report(uint64_t rounds)
 {
     int function, number;
@@ -424,6 +455,9 @@ static void report(uint64_t rounds)
         }
         printf("\n");
     }
+    printf("facts: %" PRIu64, facts_met);
+    require(facts_met || rounds < ROUNDS_THAT_MEET_ALL, ", which is never met");
+    printf("\n");
 }
 
 static void play_rounds(uint64_t seed, uint64_t first, uint64_t rounds, uint64_t *round)

@@ -125,7 +125,7 @@ impl Writer<'_> {
             procedures: roots.map(words::procedure).collect(),
             tokens: self.tokens,
             ports: generate::ports(self.random, self.tokens),
-            rules: (0..self.random.below(4)).map(|_| generate::rule(self.random, self.tokens)).collect(),
+            rules: (0..self.random.below(4)).map(|_| generate::rule_or_fact(self.random, self.tokens)).collect(),
             agents: self.agents,
         }
     }

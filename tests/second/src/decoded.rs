@@ -1,6 +1,6 @@
 //! An accepted score, taken apart.
 
-use crate::oracle::{field, kind, words};
+use crate::oracle::{field, is_fact, kind, words};
 use std::ops::RangeInclusive;
 
 pub type Token = usize;
@@ -21,7 +21,8 @@ pub enum Form {
 
 pub struct Rule {
     pub conclusion: Token,
-    pub premises: [Token; 2],
+    /// Two, or none in a fact.
+    pub premises: Vec<Token>,
 }
 
 pub struct Decoded {
@@ -64,5 +65,6 @@ fn form(word: u32) -> Form {
 }
 
 fn rule(word: u32) -> Rule {
-    Rule { conclusion: field(word, 0), premises: [field(word, 1), field(word, 2)] }
+    let premises = if is_fact(word) { vec![] } else { vec![field(word, 1), field(word, 2)] };
+    Rule { conclusion: field(word, 0), premises }
 }

@@ -43,7 +43,8 @@ pub struct Order<'a> {
     joined: Option<BTreeSet<Agent>>,
 }
 
-/// Passes over the rules until nothing is added. A store that holds the clash holds all tokens.
+/// Passes over the rules until nothing is added; facts, which have no premise, are added to any store. A store that
+/// holds the clash holds all tokens.
 fn close(score: &Decoded, store: &mut Store) {
     loop {
         let before = store.clone();

@@ -1,6 +1,7 @@
 //! Scores from random numbers: valid ones, damaged ones, and ones of every length.
 
 use crate::answer::{refused, Answer, ACCEPTED};
+use crate::oracle;
 use crate::random::Random;
 use crate::words;
 
@@ -93,6 +94,7 @@ fn mostly_small(random: &mut Random) -> Sizes {
     }
 }
 
+/// A score without facts.
 fn build(random: &mut Random, sizes: Sizes) -> Score {
     let agents = agents(random, sizes);
     Score {
@@ -112,6 +114,45 @@ pub fn ports(random: &mut Random, tokens: u32) -> u32 {
 pub fn rule(random: &mut Random, tokens: u32) -> u32 {
     let mut token = || random.below(tokens);
     words::rule(token(), token(), token())
+}
+
+/// A fact, often of the clash or of the highest token.
+fn fact(random: &mut Random, tokens: u32) -> u32 {
+    words::fact(match random.below(8) {
+        0 => 0,
+        1 => tokens - 1,
+        _ => random.below(tokens),
+    })
+}
+
+pub fn rule_or_fact(random: &mut Random, tokens: u32) -> u32 {
+    if random.one_in(4) {
+        fact(random, tokens)
+    } else {
+        rule(random, tokens)
+    }
+}
+
+/// Puts facts in the place of some rules, or of all.
+fn make_facts(random: &mut Random, score: &mut Score) {
+    let times = random.pick(&[1, 2, 8]);
+    for word in &mut score.rules {
+        if random.one_in(times) {
+            *word = fact(random, score.tokens);
+        }
+    }
+}
+
+/// A score that has a fact, and the place of that word.
+fn build_with_fact(random: &mut Random) -> (Score, usize) {
+    let mut sizes = mostly_small(random);
+    sizes.rules = sizes.rules.max(1);
+    let mut score = build(random, sizes);
+    make_facts(random, &mut score);
+    let rule = random.below(sizes.rules) as usize;
+    score.rules[rule] = fact(random, sizes.tokens);
+    let at = score.words_before_rules() + rule;
+    (score, at)
 }
 
 fn agents(random: &mut Random, sizes: Sizes) -> Vec<u32> {
@@ -188,9 +229,17 @@ pub fn valid_any(random: &mut Random, _: u64) -> Trial {
     valid(random, sizes)
 }
 
+pub fn valid_with_facts(random: &mut Random, _: u64) -> Trial {
+    Trial::known(build_with_fact(random).0.bytes(), ACCEPTED)
+}
+
 const BOUNDARY_RULES: [u32; 5] = [0, 1, 255, 256, 257];
 
-/// Each of T, N and P at its lowest and highest two, with rules at theirs and one over.
+/// How many sizes at their limits there are.
+pub const BOUNDARY_SIZES: u64 = 5 * 4 * 4 * 4;
+
+/// Each of T, N and P at its lowest and highest two, with rules at theirs and one over; in a second round all rules are
+/// facts.
 pub fn boundary_sizes(random: &mut Random, index: u64) -> Trial {
     let pick = |from: &[u32], digit: u32| from[(index / 5 / 4u64.pow(digit) % 4) as usize];
     let sizes = Sizes {
@@ -199,7 +248,11 @@ pub fn boundary_sizes(random: &mut Random, index: u64) -> Trial {
         procedures: pick(&[1, 2, 63, 64], 2),
         rules: BOUNDARY_RULES[(index % 5) as usize],
     };
-    let score = build(random, sizes).bytes();
+    let mut score = build(random, sizes);
+    if index / BOUNDARY_SIZES % 2 == 1 {
+        score.rules.fill_with(|| fact(random, sizes.tokens));
+    }
+    let score = score.bytes();
     let answer = match sizes.rules {
         257 if score.len() > 5384 => refused(1, 0),
         257 => refused(3, 0),
@@ -208,7 +261,7 @@ pub fn boundary_sizes(random: &mut Random, index: u64) -> Trial {
     Trial::known(score, answer)
 }
 
-/// Cut short, or drawn out by rules, to a length about one of the limits.
+/// Cut short, or drawn out by rules and facts, to a length about one of the limits.
 pub fn lengths(random: &mut Random, _: u64) -> Trial {
     let sizes = mostly_small(random);
     let mut score = build(random, sizes);
@@ -222,7 +275,7 @@ pub fn lengths(random: &mut Random, _: u64) -> Trial {
     } as usize;
     let wanted = length.div_ceil(4);
     while score.words_before_rules() + score.rules.len() < wanted {
-        score.rules.push(rule(random, sizes.tokens));
+        score.rules.push(rule_or_fact(random, sizes.tokens));
     }
     let mut bytes = score.bytes();
     bytes.truncate(length);
@@ -324,17 +377,32 @@ fn damage_field(random: &mut Random, words: &mut [u32]) {
     words[at] = words[at] & !(highest << lowest) | value.min(highest) << lowest;
 }
 
+/// Puts a fact in the place of a rule, if there is one; its token may be unknown, and a bit set that is zero in a fact.
+fn damage_to_fact(random: &mut Random, words: &mut [u32]) {
+    let rules = oracle::rule_places(words);
+    if !rules.is_empty() {
+        let at = rules.start + random.below(rules.len() as u32) as usize;
+        let highest = words[0] & 0xFF;
+        let token = if random.one_in(2) { highest } else { random.below(256) };
+        words[at] = words::fact(token) | random.below(2) << random.between(8, 26);
+    }
+}
+
 type Damage = fn(&mut Random, &mut [u32]);
 
 /// Any damage; for scores that have more than one fault, or a circle besides.
 pub fn damage_any(random: &mut Random, words: &mut [u32]) {
-    let damages: [Damage; 4] = [damage_word, damage_bit, damage_field, damage_field];
+    let damages: [Damage; 5] = [damage_word, damage_bit, damage_field, damage_field, damage_to_fact];
     random.pick(&damages)(random, words);
 }
 
 fn damaged(random: &mut Random, times: u32, damage: Damage) -> Trial {
     let sizes = mostly_small(random);
-    let mut words = build(random, sizes).words();
+    let mut score = build(random, sizes);
+    if random.one_in(2) {
+        make_facts(random, &mut score);
+    }
+    let mut words = score.words();
     for _ in 0..times {
         damage(random, &mut words);
     }
@@ -356,6 +424,21 @@ pub fn one_field_at_its_limit(random: &mut Random, _: u64) -> Trial {
 pub fn several_faults(random: &mut Random, _: u64) -> Trial {
     let times = random.between(2, 5);
     damaged(random, times, damage_any)
+}
+
+/// A fact that has a bit from 8 to 26, a token T or above, or both.
+pub fn fact_damaged(random: &mut Random, _: u64) -> Trial {
+    let (score, at) = build_with_fact(random);
+    let mut words = score.words();
+    let is_unknown = score.tokens < 256 && random.one_in(2);
+    if is_unknown {
+        words[at] = words::fact(random.between(score.tokens, 255));
+    }
+    let has_bit = !is_unknown || random.one_in(2);
+    if has_bit {
+        words[at] |= 1 << random.between(8, 26);
+    }
+    Trial::known(words::to_bytes(&words), refused(if has_bit { 4 } else { 5 }, at as u64))
 }
 
 /// A score of nineteen words that has every kind, with tokens, agents and procedures to spare below their limits.
@@ -380,17 +463,42 @@ pub fn every_kind() -> Score {
     }
 }
 
-/// Every bit of a score that has every kind, in turn.
+/// The token of the fact below.
+const FACT: u32 = 2;
+
+/// The words of the same, with a fact after so many of its rules.
+fn every_kind_and_fact(rules: usize) -> Vec<u32> {
+    let mut score = every_kind();
+    score.rules.insert(rules, words::fact(FACT));
+    score.words()
+}
+
+/// Every bit of a fact, at every place among rules, in turn: without bit 27 it is a rule.
+pub fn every_bit_of_fact(_: &mut Random, index: u64) -> Trial {
+    let (rules, bit) = ((index / 32 % 5) as usize, index % 32);
+    let mut words = every_kind_and_fact(rules);
+    let at = oracle::rule_places(&words).start + rules;
+    words[at] ^= 1 << bit;
+    let answer = match bit {
+        0..=7 if FACT ^ 1 << bit < every_kind().tokens => ACCEPTED,
+        0..=7 => refused(5, at as u64),
+        27 => ACCEPTED,
+        _ => refused(4, at as u64),
+    };
+    Trial::known(words::to_bytes(&words), answer)
+}
+
+/// Every bit of a score that has every kind and a fact, in turn.
 pub fn every_bit(_: &mut Random, index: u64) -> Trial {
-    let mut words = every_kind().words();
+    let mut words = every_kind_and_fact(4);
     let at = (index / 32) as usize % words.len();
     words[at] ^= 1 << (index % 32);
     Trial::open(words::to_bytes(&words))
 }
 
-/// Every kind at every word of a score that has every kind, in turn.
+/// Every kind at every word of a score that has every kind and a fact, in turn.
 pub fn every_kind_everywhere(_: &mut Random, index: u64) -> Trial {
-    let mut words = every_kind().words();
+    let mut words = every_kind_and_fact(4);
     let at = (index / 16) as usize % words.len();
     words[at] = words[at] & 0x0FFF_FFFF | (index as u32 % 16) << 28;
     Trial::open(words::to_bytes(&words))

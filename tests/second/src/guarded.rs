@@ -8,8 +8,8 @@ const GUARD: usize = 64;
 /// The two words that guards are made of: what is read outside a buffer shows in one of two calls.
 pub const GUARDS: [u32; 2] = [0, u32::MAX];
 
-/// Words that could stand next: a rule by which token 1 is a clash; an instant, an input, an output.
-const NEXT_WORDS: [u32; 4] = [0x2001_0100, 0xC000_0000, 0xD000_0001, 0xE000_0001];
+/// Words that could stand next: a rule by which token 1 is a clash, and a fact of it; an instant, an input, an output.
+const NEXT_WORDS: [u32; 5] = [0x2001_0100, 0x2800_0001, 0xC000_0000, 0xD000_0001, 0xE000_0001];
 
 /// The two, and one that could stand next.
 pub fn guards(random: &mut Random) -> [u32; 3] {

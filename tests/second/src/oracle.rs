@@ -1,6 +1,7 @@
 //! The score check, written from the document alone and as close to its words as can be.
 
 use crate::answer::{refused, Answer, ACCEPTED};
+use std::ops::Range;
 
 /// T, N and P.
 struct Sizes {
@@ -40,8 +41,9 @@ pub fn check(score: &[u8]) -> Answer {
     }
 }
 
+/// The whole words.
 pub fn words(score: &[u8]) -> Vec<u32> {
-    score.chunks(4).map(|bytes| u32::from_le_bytes(bytes.try_into().expect("a word has four bytes"))).collect()
+    score.chunks_exact(4).map(|bytes| u32::from_le_bytes(bytes.try_into().expect("a word has four bytes"))).collect()
 }
 
 pub fn kind(word: u32) -> u32 {
@@ -54,7 +56,7 @@ fn fields(kind: u32) -> &'static [(u32, u32)] {
         1 => &[(7, 0), (17, 8), (23, 18)],
         11 => &[(7, 0), (15, 8)],
         3 => &[(9, 0)],
-        2 => &[(7, 0), (15, 8), (23, 16)],
+        2 => &[(7, 0), (15, 8), (23, 16), (27, 27)],
         4 => &[(0, 0)],
         5 => &[(7, 0)],
         6 => &[(9, 0), (19, 10)],
@@ -79,6 +81,16 @@ fn is_named(kind: u32, bit: u32) -> bool {
     fields(kind).iter().any(|&(highest, lowest)| (lowest..=highest).contains(&bit))
 }
 
+/// A rule word that says that its conclusion holds with no premise.
+pub fn is_fact(word: u32) -> bool {
+    kind(word) == 2 && field(word, 3) == 1
+}
+
+/// The bits of the premises are zero in a fact.
+fn is_damaged_fact(word: u32) -> bool {
+    is_fact(word) && (field(word, 1) != 0 || field(word, 2) != 0)
+}
+
 fn sizes(word: u32) -> Option<Sizes> {
     if kind(word) != 1 || has_unnamed_bit(word) {
         return None;
@@ -99,9 +111,16 @@ fn place(sizes: &Sizes, at: usize) -> Place {
     }
 }
 
+/// The places of the rules; none where the words have no head, or are too few.
+pub fn rule_places(words: &[u32]) -> Range<usize> {
+    let sizes = words.first().and_then(|&head| sizes(head));
+    let first = sizes.map_or(words.len(), |sizes| 2 + sizes.agents + sizes.procedures);
+    first.min(words.len())..words.len()
+}
+
 /// The lowest of 4, 5 and 6 that a word meets.
 fn fault(sizes: &Sizes, place: Place, word: u32) -> Option<u32> {
-    if !fits(place, kind(word)) || has_unnamed_bit(word) {
+    if !fits(place, kind(word)) || has_unnamed_bit(word) || is_damaged_fact(word) {
         Some(4)
     } else if tokens(word).iter().any(|&token| token >= sizes.tokens) {
         Some(5)

@@ -42,11 +42,21 @@ fn large(random: &mut Random) -> Sizes {
     }
 }
 
-/// Aborts, where a score has any, are rare enough that they are often not reached.
+/// Aborts, where a score has any, are rare enough that they are often not reached. Where a score has facts, one in so
+/// many rules is one.
 #[derive(Clone, Copy)]
 struct Rates {
     aborts: bool,
     clash: u32,
+    facts: Option<u32>,
+}
+
+fn rates(random: &mut Random) -> Rates {
+    Rates {
+        aborts: random.one_in(3),
+        clash: random.pick(&[2, 8, 8, 64]),
+        facts: random.pick(&[None, None, None, Some(8), Some(2), Some(1)]),
+    }
 }
 
 /// A token; the clash once in so many times.
@@ -58,8 +68,11 @@ fn token(random: &mut Random, tokens: u32, clash: u32) -> u32 {
     }
 }
 
-fn rule(random: &mut Random, tokens: u32, clash: u32) -> u32 {
-    let conclusion = token(random, tokens, clash);
+fn rule(random: &mut Random, tokens: u32, rates: Rates) -> u32 {
+    if rates.facts.is_some_and(|times| random.one_in(times)) {
+        return words::fact(token(random, tokens, 32));
+    }
+    let conclusion = token(random, tokens, rates.clash);
     let premise = token(random, tokens, 16);
     let other = if random.one_in(3) { premise } else { token(random, tokens, 16) };
     words::rule(conclusion, premise, other)
@@ -98,13 +111,17 @@ fn agent(random: &mut Random, sizes: &Sizes, agent: u32, rates: Rates) -> u32 {
 }
 
 fn build(random: &mut Random, sizes: Sizes) -> Score {
-    let rates = Rates { aborts: random.one_in(3), clash: random.pick(&[2, 8, 8, 64]) };
+    let rates = rates(random);
+    build_at(random, sizes, rates)
+}
+
+fn build_at(random: &mut Random, sizes: Sizes, rates: Rates) -> Score {
     let agents: Vec<u32> = (0..sizes.agents).map(|number| agent(random, &sizes, number, rates)).collect();
     let mut score = Score {
         tokens: sizes.tokens,
         ports: generate::ports(random, sizes.tokens),
         procedures: generate::procedures(random, &agents, sizes.procedures),
-        rules: (0..sizes.rules).map(|_| rule(random, sizes.tokens, rates.clash)).collect(),
+        rules: (0..sizes.rules).map(|_| rule(random, sizes.tokens, rates)).collect(),
         agents,
     };
     if score.agents.len() <= 1021 && !random.one_in(3) {
@@ -146,14 +163,36 @@ pub fn small_score(random: &mut Random) -> Vec<u8> {
     build(random, sizes).bytes()
 }
 
-/// A score of any size, mostly small.
-pub fn score(random: &mut Random) -> Vec<u8> {
-    let sizes = match random.below(40) {
+fn mostly_small(random: &mut Random) -> Sizes {
+    match random.below(40) {
         0 => large(random),
         1..=9 => middling(random),
         _ => small(random),
-    };
+    }
+}
+
+/// A score of any size, mostly small.
+pub fn score(random: &mut Random) -> Vec<u8> {
+    let sizes = mostly_small(random);
     build(random, sizes).bytes()
+}
+
+pub fn score_without_facts(random: &mut Random) -> Vec<u8> {
+    let sizes = mostly_small(random);
+    let rates = Rates { facts: None, ..rates(random) };
+    build_at(random, sizes, rates).bytes()
+}
+
+/// A score that tells a token at every instant from the start state on, until it is aborted.
+pub fn telling_score(random: &mut Random) -> Vec<u8> {
+    let sizes = if random.one_in(6) { middling(random) } else { small(random) };
+    let told = token(random, sizes.tokens, 16);
+    let mut score = build(random, sizes);
+    let (root, first) = (score.procedures[0] & 0x3FF, score.agents.len() as u32);
+    score.agents.extend([words::tell(told), words::parallel(root, first)]);
+    score.procedures[0] = words::procedure(first + 1);
+    call_again(&mut score);
+    score.bytes()
 }
 
 pub fn large_score(random: &mut Random) -> Vec<u8> {
@@ -169,18 +208,64 @@ fn plain(tokens: u32, agents: Vec<u32>, rules: Vec<u32>) -> Vec<u8> {
     score.bytes()
 }
 
-/// Rules of which each adds the premise of another, in any order: the last conclusion needs as many passes as there
-/// are rules if the order is the worst.
-pub fn rule_chain(random: &mut Random) -> Vec<u8> {
-    let tokens = if random.one_in(2) { 256 } else { random.between(3, 255) };
-    let mut rules: Vec<u32> = (1..tokens - 1).map(|token| words::rule(token + 1, token, token.max(2) - 1)).collect();
+/// Rules of which each adds the premise of another, from token 1 to the last.
+fn chain(tokens: u32) -> Vec<u32> {
+    (1..tokens - 1).map(|token| words::rule(token + 1, token, token.max(2) - 1)).collect()
+}
+
+/// How many tokens a chain of rules has, and so almost how many rules.
+fn length_of_chain(random: &mut Random) -> u32 {
+    if random.one_in(2) {
+        256
+    } else {
+        random.between(3, 255)
+    }
+}
+
+/// Leaves rules in their order, turns it round, or shuffles them.
+fn reorder(random: &mut Random, rules: &mut [u32]) {
     match random.below(3) {
         0 => {}
         1 => rules.reverse(),
-        _ => random.shuffle(&mut rules),
+        _ => random.shuffle(rules),
     }
+}
+
+/// A chain of rules, in any order: the last conclusion needs as many passes as there are rules if the order is the
+/// worst.
+pub fn rule_chain(random: &mut Random) -> Vec<u8> {
+    let tokens = length_of_chain(random);
+    let mut rules = chain(tokens);
+    reorder(random, &mut rules);
     let last = tokens - 1;
     plain(tokens, vec![words::tell(1), words::unless(0, last), words::parallel(0, 1)], rules)
+}
+
+/// A when and an unless on one token, with a skip for their body; the last agent is both.
+fn asking(token: u32) -> Vec<u32> {
+    vec![words::skip(), words::when(0, token), words::unless(0, token), words::parallel(1, 2)]
+}
+
+/// A chain of rules that starts with a fact, and at times ends with the clash; no agent tells anything.
+pub fn fact_chain(random: &mut Random) -> Vec<u8> {
+    let tokens = length_of_chain(random);
+    let last = tokens - 1;
+    let mut rules = chain(tokens);
+    rules.push(words::fact(1));
+    if random.one_in(2) {
+        rules.push(words::rule(0, last, last));
+    }
+    reorder(random, &mut rules);
+    plain(tokens, asking(last), rules)
+}
+
+/// As many rules as there can be, all of them facts: some tokens often, others never; seldom the clash.
+pub fn all_facts(random: &mut Random) -> Vec<u8> {
+    let tokens = random.between(2, 256);
+    let highest = random.between(1, tokens - 1);
+    let lowest = if random.one_in(6) { 0 } else { 1 };
+    let rules = (0..256).map(|_| words::fact(random.between(lowest, highest))).collect();
+    plain(tokens, asking(random.below(tokens)), rules)
 }
 
 /// Whens of which each tells the next one's token, awake all at once.
@@ -248,7 +333,7 @@ pub fn call_chain(random: &mut Random) -> Vec<u8> {
 
 /// One of the scores above.
 pub fn special_score(random: &mut Random) -> Vec<u8> {
-    let kinds = [rule_chain, when_chain, nested_whens, deep_sharing, call_chain];
+    let kinds = [rule_chain, when_chain, nested_whens, deep_sharing, call_chain, fact_chain, all_facts];
     random.pick(&kinds)(random)
 }
 
@@ -260,7 +345,9 @@ pub fn checked_score(random: &mut Random, index: u64) -> Vec<u8> {
         generate::damaged_head,
         generate::lengths,
         generate::one_field_at_its_limit,
+        generate::fact_damaged,
         generate::valid_small,
+        generate::valid_with_facts,
     ];
     random.pick(&generators)(random, index).score
 }

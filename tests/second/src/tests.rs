@@ -2,6 +2,7 @@
 
 use crate::answer::{same, Answer};
 use crate::calls::Lent;
+use crate::oracle;
 use crate::random::Random;
 use std::collections::BTreeMap;
 use std::process::ExitCode;
@@ -37,16 +38,44 @@ const LEAST_MET: u64 = 1_000;
 pub struct Met {
     /// By call and number.
     numbers: BTreeMap<(&'static str, u32), u64>,
+    /// The same, of the answers that are about a fact.
+    of_facts: BTreeMap<(&'static str, u32), u64>,
     statuses: BTreeMap<u32, u64>,
+    statuses_with_facts: BTreeMap<u32, u64>,
+    facts_added: u64,
+}
+
+/// Whether a score with a fact is accepted, or the word that 4 or 5 names is a fact. Its kind is then right for its place,
+/// so that 4 is due to a bit from 8 to 26.
+fn is_about_fact(score: &[u8], answer: Answer) -> bool {
+    let words = oracle::words(score);
+    let mut facts = oracle::rule_places(&words).filter(|&at| oracle::is_fact(words[at]));
+    match answer {
+        Answer::Refused { number: 4 | 5, value } => facts.any(|at| at as u64 == value),
+        Answer::Refused { .. } => false,
+        _ => facts.next().is_some(),
+    }
 }
 
 impl Met {
-    pub fn count(&mut self, call: &'static str, packed: u64) {
+    pub fn count(&mut self, call: &'static str, score: &[u8], packed: u64) {
         let answer = Answer::unpacked(packed);
+        let is_about_fact = is_about_fact(score, answer);
         *self.numbers.entry((call, answer.number())).or_default() += 1;
+        if is_about_fact {
+            *self.of_facts.entry((call, answer.number())).or_default() += 1;
+        }
         if let Answer::Instant { status, .. } = answer {
             *self.statuses.entry(status).or_default() += 1;
+            if is_about_fact {
+                *self.statuses_with_facts.entry(status).or_default() += 1;
+            }
         }
+    }
+
+    /// A score was compared with itself and a fact more, which it did not have.
+    pub fn count_fact_added(&mut self) {
+        self.facts_added += 1;
     }
 }
 
@@ -102,10 +131,25 @@ impl Tests {
         }
     }
 
+    /// From both sides of a fact's limits: accepted, and damaged by a bit or by its token.
+    pub fn require_facts(&mut self, call: &'static str) {
+        for number in [0, 4, 5] {
+            let met = self.met.of_facts.get(&(call, number)).copied();
+            self.require(&format!("{call}: number {number} of facts"), met);
+        }
+    }
+
+    pub fn require_facts_added(&mut self) {
+        let met = self.met.facts_added;
+        self.require("a fact added", Some(met));
+    }
+
     pub fn require_statuses(&mut self) {
         for status in 0..=2 {
             let met = self.met.statuses.get(&status).copied();
             self.require(&format!("status {status}"), met);
+            let met = self.met.statuses_with_facts.get(&status).copied();
+            self.require(&format!("status {status} of a score with facts"), met);
         }
     }
 

@@ -16,6 +16,11 @@ pub fn rule(conclusion: u32, premise: u32, other: u32) -> u32 {
     0x2000_0000 | conclusion | premise << 8 | other << 16
 }
 
+/// A rule word whose conclusion holds with no premise.
+pub fn fact(conclusion: u32) -> u32 {
+    0x2800_0000 | conclusion
+}
+
 pub fn skip() -> u32 {
     0x4000_0000
 }

@@ -16,10 +16,21 @@ fn case(name: &'static str, words: &[u32], answer: Answer) -> Score {
 }
 
 pub fn all() -> Vec<Score> {
-    [lengths(), document(), heads(), precedence(), references(), tokens(), paths(), circles()]
-        .into_iter()
-        .flatten()
-        .collect()
+    [
+        lengths(),
+        document(),
+        heads(),
+        precedence(),
+        references(),
+        tokens(),
+        facts(),
+        counts_of_facts(),
+        paths(),
+        circles(),
+    ]
+    .into_iter()
+    .flatten()
+    .collect()
 }
 
 /// S with some of its words replaced.
@@ -147,6 +158,88 @@ fn tokens() -> Vec<Score> {
         with("a first premise T", 16, rule(0, 6, 0), refused(5, 16)),
         with("a second premise T", 17, rule(0, 0, 6), refused(5, 17)),
         with("a rule of tokens T - 1", 18, rule(5, 5, 5), ACCEPTED),
+    ]
+}
+
+/// Bit 27 of a word, which makes a fact of a rule.
+const FACT_BIT: u32 = 1 << 27;
+
+fn facts() -> Vec<Score> {
+    let score = every_kind().words();
+    let with = |name, words: &[(usize, u32)], answer| case(name, &replaced(&score, words), answer);
+    let one = |name, at, word, answer| with(name, &[(at, word)], answer);
+    vec![
+        one("a fact of token 0", 18, fact(0), ACCEPTED),
+        one("a fact of token T - 1", 18, fact(5), ACCEPTED),
+        one("a fact of token T", 18, fact(6), refused(5, 18)),
+        one("a fact of token 255", 18, fact(255), refused(5, 18)),
+        one("a rule of premises 0 and bit 27 is a fact", 18, rule(5, 0, 0) | FACT_BIT, ACCEPTED),
+        one("a fact with bit 8", 18, fact(5) | 1 << 8, refused(4, 18)),
+        one("a fact with bit 15", 18, fact(5) | 1 << 15, refused(4, 18)),
+        one("a fact with bit 16", 18, fact(5) | 1 << 16, refused(4, 18)),
+        one("a fact with bit 23", 18, fact(5) | 1 << 23, refused(4, 18)),
+        one("a fact with bit 24", 18, fact(5) | 1 << 24, refused(4, 18)),
+        one("a fact with bit 26", 18, fact(5) | 1 << 26, refused(4, 18)),
+        one("a fact with every bit from 8 to 26", 18, fact(5) | 0x07FF_FF00, refused(4, 18)),
+        one("a fact: 4 before 5 by a premise's bit", 18, fact(6) | 1 << 8, refused(4, 18)),
+        one("a fact: 4 before 5 by an unnamed bit", 18, fact(6) | 1 << 26, refused(4, 18)),
+        one("bit 27 on the ports", 1, score[1] | FACT_BIT, refused(4, 1)),
+        one("bit 27 on a tell", 2, score[2] | FACT_BIT, refused(4, 2)),
+        one("bit 27 on a skip", 3, score[3] | FACT_BIT, refused(4, 3)),
+        one("bit 27 on an abort", 4, score[4] | FACT_BIT, refused(4, 4)),
+        one("bit 27 on a call", 5, score[5] | FACT_BIT, refused(4, 5)),
+        one("bit 27 on a when", 6, score[6] | FACT_BIT, refused(4, 6)),
+        one("bit 27 on a next", 7, score[7] | FACT_BIT, refused(4, 7)),
+        one("bit 27 on an unless", 8, score[8] | FACT_BIT, refused(4, 8)),
+        one("bit 27 on a parallel", 9, score[9] | FACT_BIT, refused(4, 9)),
+        one("bit 27 on a procedure", 12, score[12] | FACT_BIT, refused(4, 12)),
+        one("bit 27 on a procedure at a rule", 18, procedure(0) | FACT_BIT, refused(4, 18)),
+        one("bit 27 on a tell at a rule", 18, tell(0) | FACT_BIT, refused(4, 18)),
+        one("bit 27 on kind 0 at a rule", 18, FACT_BIT, refused(4, 18)),
+        one("a fact at the ports", 1, fact(0), refused(4, 1)),
+        one("a fact at an agent", 2, fact(0), refused(4, 2)),
+        one("a fact at a procedure", 12, fact(0), refused(4, 12)),
+        with(
+            "the lowest word wins: a fact's 5 before a later fact's 4",
+            &[(15, fact(6)), (16, fact(1) | 1 << 8)],
+            refused(5, 15),
+        ),
+        with(
+            "the lowest word wins: a fact's 4 before a later rule's 5",
+            &[(15, fact(1) | 1 << 24), (16, rule(6, 0, 0))],
+            refused(4, 15),
+        ),
+        with(
+            "the lowest word wins: a rule's 5 before a later fact's 4",
+            &[(15, rule(0, 6, 0)), (18, fact(1) | 1 << 23)],
+            refused(5, 15),
+        ),
+        with(
+            "the lowest word wins: a root's 6 before a fact's 4",
+            &[(14, procedure(10)), (15, fact(1) | 1 << 8)],
+            refused(6, 14),
+        ),
+        case("a damaged fact before a circle", &s_with(&[(5, 0x6000_0801), (8, fact(0) | 1 << 8)]), refused(4, 8)),
+        case("a circle beside a fact", &s_with(&[(5, 0x6000_0801), (8, fact(0))]), refused(7, 0)),
+    ]
+}
+
+/// S with these rules in place of its own.
+fn s_with_rules(name: &'static str, rules: &[(usize, u32)], answer: Answer) -> Score {
+    let rules = rules.iter().flat_map(|&(times, word)| vec![word; times]);
+    case(name, &S[..8].iter().copied().chain(rules).collect::<Vec<_>>(), answer)
+}
+
+/// Facts count among the 256 rules.
+fn counts_of_facts() -> Vec<Score> {
+    vec![
+        s_with_rules("a fact alone", &[(1, fact(3))], ACCEPTED),
+        s_with_rules("256 facts", &[(256, fact(3))], ACCEPTED),
+        s_with_rules("257 facts", &[(257, fact(3))], refused(3, 0)),
+        s_with_rules("255 rules and a fact", &[(255, S[8]), (1, fact(3))], ACCEPTED),
+        s_with_rules("256 rules and a fact", &[(256, S[8]), (1, fact(3))], refused(3, 0)),
+        s_with_rules("256 facts and a rule", &[(256, fact(3)), (1, S[8])], refused(3, 0)),
+        s_with_rules("257 facts, one of them damaged", &[(256, fact(3)), (1, fact(3) | 1 << 8)], refused(3, 0)),
     ]
 }
 

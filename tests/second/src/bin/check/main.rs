@@ -17,7 +17,7 @@ fn judge(met: &mut Met, trial: &Trial, offset: usize) -> Outcome {
         return Err(format!("the test's own check says {expected}, not {known}"));
     }
     let answer = library::check(&trial.score, offset)?;
-    met.count("check", answer);
+    met.count("check", &trial.score, answer);
     same(answer, expected)
 }
 
@@ -27,7 +27,8 @@ const CATEGORIES: &[Category<Generate>] = &[
     ("valid, small", 20_000, generate::valid_small),
     ("valid, middling", 10_000, generate::valid_middling),
     ("valid, of any size", 3_000, generate::valid_any),
-    ("sizes at their limits", 640, generate::boundary_sizes),
+    ("valid, with facts", 10_000, generate::valid_with_facts),
+    ("sizes at their limits", 2 * generate::BOUNDARY_SIZES, generate::boundary_sizes),
     ("lengths about their limits", 15_000, generate::lengths),
     ("far too long", 200, generate::far_too_long),
     ("random bytes", 10_000, generate::random_bytes),
@@ -35,9 +36,11 @@ const CATEGORIES: &[Category<Generate>] = &[
     ("one word damaged", 40_000, generate::one_word_damaged),
     ("one bit damaged", 40_000, generate::one_bit_damaged),
     ("one field at its limit", 30_000, generate::one_field_at_its_limit),
+    ("a fact damaged", 10_000, generate::fact_damaged),
     ("several faults", 20_000, generate::several_faults),
-    ("every bit", 32 * 19, generate::every_bit),
-    ("every kind at every word", 16 * 19, generate::every_kind_everywhere),
+    ("every bit", 32 * 20, generate::every_bit),
+    ("every bit of a fact", 32 * 5, generate::every_bit_of_fact),
+    ("every kind at every word", 16 * 20, generate::every_kind_everywhere),
     ("one circle", 6_000, circles::one_circle),
     ("guarded circle", 6_000, circles::guarded_circle),
     ("two circles", 3_000, circles::two_circles),
@@ -61,6 +64,7 @@ fn test(tests: &mut Tests) {
     tests.cases(cases::all().into_iter().map(at_every_offset).collect());
     tests.categories(CATEGORIES, judge_generated);
     tests.require_numbers("check", 0..=7);
+    tests.require_facts("check");
 }
 
 fn main() -> ExitCode {

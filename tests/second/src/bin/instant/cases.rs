@@ -14,7 +14,10 @@ use second::weight::Weights;
 use second::words::*;
 
 pub fn all() -> Vec<Case> {
-    [sample(), refusals(), small(), readings(), sharing()].into_iter().flatten().collect()
+    [sample(), refusals(), small(), readings(), facts(), facts_and_agents(), facts_and_aborts(), sharing()]
+        .into_iter()
+        .flatten()
+        .collect()
 }
 
 /// What one instant must bring about.
@@ -66,7 +69,7 @@ fn both(met: &mut Met, lent: &InstantLent, expected: (Answer, InstantLent)) -> O
     for offset in 0..8 {
         for guard in GUARDS {
             let got = library::instant(lent, offset, guard)?;
-            met.count("instant", got.0);
+            met.count("instant", &lent.score, got.0);
             same_call(&expected, &got)?;
         }
     }
@@ -136,6 +139,8 @@ fn refusals() -> Vec<Case> {
         score("S without its procedure: 3", S[..7].to_vec(), 3, 0),
         score("S with a rule for an agent: 4", with(&[(2, S[8])]), 4, 2),
         score("S with rule 0x20040200: 5", with(&[(8, 0x2004_0200)]), 5, 8),
+        score("S with a fact that has a premise: 4", with(&[(8, 0x2800_0203)]), 4, 8),
+        score("S with a fact of token 4: 5", with(&[(8, 0x2800_0004)]), 5, 8),
         score("S with root 5: 6", with(&[(7, 0x3000_0005)]), 6, 7),
         score("S with agent 3 as 0x60000801: 7", with(&[(5, 0x6000_0801)]), 7, 0),
         state("S, state with agent 5: 9", state_bytes(RUNNING, [5]), &[], 9),
@@ -259,6 +264,108 @@ fn readings() -> Vec<Case> {
                 rules: vec![],
             };
             in_turn(met, &score.words(), &[1], &[(&[], quiet(2, &[1], &[]))])
+        }),
+    ]
+}
+
+/// Two instants with nobody awake and no input.
+fn stands(met: &mut Met, score: &[u32], store: &[usize]) -> Outcome {
+    in_turn(met, score, &[], &[(&[], quiet(0, store, &[])), (&[], quiet(0, store, &[]))])
+}
+
+fn facts() -> Vec<Case> {
+    let all: fn(usize) -> Vec<usize> = |tokens| (0..tokens).collect();
+    vec![
+        case("a fact stands with nobody awake and no input", |met| stands(met, &score(3, &[skip()], &[fact(2)]), &[2])),
+        case("what follows from facts stands, though its rules come first", |met| {
+            let rules = [rule(4, 3, 2), rule(3, 2, 2), fact(2), rule(5, 2, 1)];
+            stands(met, &score(6, &[skip()], &rules), &[2, 3, 4])
+        }),
+        case("of facts and what follows from them the ports come out", |met| {
+            let mut words = score(6, &[skip()], &[fact(1), rule(2, 1, 1), rule(3, 2, 2), fact(5)]);
+            words[1] = ports(2, 4);
+            stands(met, &words, &[1, 2, 3, 5])
+        }),
+        case("a fact twice is a fact", |met| stands(met, &score(3, &[skip()], &[fact(1), fact(2), fact(1)]), &[1, 2])),
+        case("a fact of token 0 is a clash at every instant", move |met| {
+            stands(met, &score(4, &[skip()], &[fact(0)]), &all(4))
+        }),
+        case("facts that lead to the clash", move |met| {
+            stands(met, &score(5, &[skip()], &[rule(0, 3, 2), rule(3, 1, 1), fact(1), fact(2)]), &all(5))
+        }),
+        case("a fact of the only token", move |met| stands(met, &score(1, &[skip()], &[fact(0)]), &all(1))),
+        case("256 facts of all tokens but the clash", move |met| {
+            let facts: Vec<u32> = (0..256).map(|token| fact(token.max(1))).collect();
+            stands(met, &score(256, &[skip()], &facts), &all(256)[1..])
+        }),
+        case("256 facts of all tokens", move |met| {
+            let facts: Vec<u32> = (0..256).map(fact).collect();
+            stands(met, &score(256, &[skip()], &facts), &all(256))
+        }),
+        case("a rule with a fact for one premise and an input for the other", |met| {
+            [rule(3, 1, 2), rule(3, 2, 1)].into_iter().try_for_each(|rule| {
+                let score = score(4, &[skip()], &[rule, fact(1)]);
+                in_turn(met, &score, &[], &[(&[], quiet(0, &[1], &[])), (&[2], quiet(0, &[1, 2, 3], &[]))])
+            })
+        }),
+    ]
+}
+
+fn facts_and_agents() -> Vec<Case> {
+    vec![
+        case("a when on a fact is answered", |met| {
+            let score = score(3, &[tell(2), when(0, 1)], &[fact(1)]);
+            in_turn(met, &score, &[1], &[(&[], quiet(2, &[1, 2], &[])), (&[], quiet(0, &[1], &[]))])
+        }),
+        case("a when under a next finds the fact at the next instant", |met| {
+            let score = score(3, &[tell(2), when(0, 1), next(1)], &[fact(1)]);
+            in_turn(met, &score, &[2], &[(&[], quiet(0, &[1], &[1])), (&[], quiet(2, &[1, 2], &[]))])
+        }),
+        case("an unless on a fact is gone", |met| {
+            let score = score(3, &[tell(2), unless(0, 1)], &[fact(1)]);
+            in_turn(met, &score, &[1], &[(&[], quiet(1, &[1], &[])), (&[], quiet(0, &[1], &[]))])
+        }),
+        case("an unless on what follows from a fact is gone", |met| {
+            let score = score(4, &[tell(3), unless(0, 2)], &[rule(2, 1, 1), fact(1)]);
+            in_turn(met, &score, &[1], &[(&[], quiet(1, &[1, 2], &[]))])
+        }),
+        case("an unless on another token stays", |met| {
+            let score = score(3, &[tell(2), unless(0, 2)], &[fact(1)]);
+            in_turn(met, &score, &[1], &[(&[], quiet(0, &[1], &[0])), (&[], quiet(1, &[1, 2], &[]))])
+        }),
+        case("a tell of a fact counts, and the fact does not", |met| {
+            in_turn(met, &score(2, &[tell(1)], &[fact(1)]), &[0], &[(&[1], quiet(1, &[1], &[]))])
+        }),
+        case("the clash of a fact answers every when and unless", |met| {
+            let score = score(4, &[skip(), next(0), when(1, 3), unless(0, 2), parallel(2, 3)], &[fact(0)]);
+            in_turn(met, &score, &[4], &[(&[], quiet(3, &[0, 1, 2, 3], &[0]))])
+        }),
+        case("what is told clashes with a fact", |met| {
+            let score = score(3, &[tell(2)], &[fact(1), rule(0, 1, 2)]);
+            in_turn(met, &score, &[0], &[(&[], quiet(1, &[0, 1, 2], &[])), (&[], quiet(0, &[1], &[]))])
+        }),
+    ]
+}
+
+/// An aborted instant has an empty store, the first and each later one.
+fn facts_and_aborts() -> Vec<Case> {
+    let aborts = |met: &mut Met, score: &[u32]| {
+        let root = Decoded::new(&to_bytes(score)).roots[0];
+        in_turn(met, score, &[root], &[(&[], aborted()), (&[], aborted()), (&[1], aborted())])
+    };
+    vec![
+        case("an abort beside a fact", move |met| aborts(met, &score(3, &[abort()], &[fact(2)]))),
+        case("an abort beside the clash of a fact", move |met| aborts(met, &score(3, &[abort()], &[fact(0)]))),
+        case("an abort under a when on a fact", move |met| aborts(met, &score(3, &[abort(), when(0, 2)], &[fact(2)]))),
+        case("an abort under a when on what follows from a fact", move |met| {
+            aborts(met, &score(4, &[abort(), when(0, 3)], &[rule(3, 2, 2), fact(2)]))
+        }),
+        case("an abort under a when that the clash of a fact answers", move |met| {
+            aborts(met, &score(3, &[abort(), when(0, 2)], &[fact(0)]))
+        }),
+        case("an abort that a fact does not reach", |met| {
+            let score = score(4, &[abort(), when(0, 3)], &[fact(2)]);
+            in_turn(met, &score, &[1], &[(&[], quiet(0, &[2], &[]))])
         }),
     ]
 }

@@ -9,7 +9,8 @@ use second::tests::{self, Category, Tests, Trial};
 use std::process::ExitCode;
 
 const CATEGORIES: &[Category<Trial>] = &[
-    ("any scores", 60_000, trials::any_scores),
+    ("any scores", 40_000, trials::any_scores),
+    ("scores without facts", 20_000, trials::scores_without_facts),
     ("large scores", 1_500, trials::large_scores),
     ("special scores", 6_000, trials::special_scores),
     ("full scores", 600, trials::full_scores),
@@ -32,6 +33,7 @@ fn test(tests: &mut Tests) {
     tests.cases(cases::all());
     tests.categories(CATEGORIES, |trial, met, random, index| trial(met, random, index));
     tests.require_numbers("instant", 0..=10);
+    tests.require_facts("instant");
     tests.require_statuses();
 }
 

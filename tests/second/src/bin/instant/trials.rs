@@ -18,7 +18,7 @@ pub fn judge(met: &mut Met, lent: &InstantLent, random: &mut Random, offset: usi
     let expected = instant_call(lent, random);
     for guard in guards(random) {
         let got = library::instant(lent, offset, guard)?;
-        met.count("instant", got.0);
+        met.count("instant", &lent.score, got.0);
         same_call(&expected, &got).map_err(|difference| format!("{difference}{}", shown(lent)))?;
     }
     Ok(expected.1)
@@ -31,6 +31,12 @@ fn judge_at_any_offset(met: &mut Met, lent: &InstantLent, random: &mut Random) -
 
 pub fn any_scores(met: &mut Met, random: &mut Random, _: u64) -> Outcome {
     let score = scenes::score(random);
+    let lent = lawful::instant(random, score);
+    judge_at_any_offset(met, &lent, random)
+}
+
+pub fn scores_without_facts(met: &mut Met, random: &mut Random, _: u64) -> Outcome {
+    let score = scenes::score_without_facts(random);
     let lent = lawful::instant(random, score);
     judge_at_any_offset(met, &lent, random)
 }
@@ -144,14 +150,16 @@ pub fn several_faults(met: &mut Met, random: &mut Random, _: u64) -> Outcome {
     judge_at_any_offset(met, &lent, random)
 }
 
-/// Any state and input map, of random bits: the scores have all the agents and all the tokens that there can be.
+/// Any state and input map, of random bits: the scores have all the agents, tokens and rules that there can be; some
+/// have a few facts among them.
 pub fn full_scores(met: &mut Met, random: &mut Random, index: u64) -> Outcome {
+    let facts = random.pick(&[0, 0, 1, 8]);
     let agents: Vec<u32> = (0..1024u32).map(|agent| full_agent(random, agent)).collect();
     let score = second::generate::Score {
         tokens: 256,
         ports: words::ports(random.below(2), 254 + random.below(2)),
         procedures: (0..64).map(|procedure| words::procedure(1023 - procedure)).collect(),
-        rules: (0..256).map(|_| second::generate::rule(random, 256)).collect(),
+        rules: (0..256).map(|rule| full_rule(random, rule < facts)).collect(),
         agents,
     };
     let mut lent = lawful::instant(random, score.bytes());
@@ -160,6 +168,14 @@ pub fn full_scores(met: &mut Met, random: &mut Random, index: u64) -> Outcome {
         lent.state[4..].copy_from_slice(&scenes::dirt(random, STATE_BYTES - 4));
     }
     judge_at_any_offset(met, &lent, random)
+}
+
+fn full_rule(random: &mut Random, is_fact: bool) -> u32 {
+    if is_fact {
+        words::fact(random.below(256))
+    } else {
+        second::generate::rule(random, 256)
+    }
 }
 
 /// Agents that call nothing but from under a next.
@@ -323,6 +339,6 @@ pub fn input_on_score(met: &mut Met, random: &mut Random, _: u64) -> Outcome {
     lent.input = lent.score[input_at..][..MAP_BYTES].to_vec();
     let expected = instant_call(&lent, random);
     let got = overlap::instant_on_score(&lent, input_at);
-    met.count("instant", got.0);
+    met.count("instant", &lent.score, got.0);
     same_call(&expected, &got).map_err(|difference| format!("{difference}{}", shown(&lent)))
 }

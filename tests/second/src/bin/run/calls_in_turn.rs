@@ -41,7 +41,7 @@ fn one_instant(
     let lent = InstantLent { state, ..lawful::instant(random, score.to_vec()) };
     let expected = instant_call(&lent, random);
     let got = instant::instant(&lent, random.below(8) as usize, random.pick(&GUARDS))?;
-    met.count("instant", got.0);
+    met.count("instant", &lent.score, got.0);
     same(got.0, expected.0).map_err(|difference| format!("{difference}{}", shown(&lent)))?;
     sequence.instant(&map_tokens(&lent.input), random);
     Ok(got.1.state)

@@ -12,7 +12,10 @@ use second::tests::{case, ensure, Case, Met, Outcome};
 use second::words::*;
 
 pub fn all() -> Vec<Case> {
-    [sample(), lists(), aborted(), journals(), large_values()].into_iter().flatten().collect()
+    [sample(), lists(), aborted(), journals(), facts(), journals_with_facts(), large_values()]
+        .into_iter()
+        .flatten()
+        .collect()
 }
 
 const INPUTS: [&[usize]; 3] = [&[1], &[], &[1, 3]];
@@ -174,6 +177,126 @@ fn journals() -> Vec<Case> {
     ]
 }
 
+/// S with the fact 3 in place of its rule.
+fn s_with_fact() -> Vec<u32> {
+    replaced(&S, &[(8, fact(3))])
+}
+
+/// Its journal over the inputs of S.
+const JOURNAL_WITH_FACT: [u32; 11] = [
+    0xC000_0000,
+    0xD000_0001,
+    0xE000_0002,
+    0xE000_0003,
+    0xC000_0000,
+    0xE000_0003,
+    0xC000_0000,
+    0xD000_0001,
+    0xD000_0003,
+    0xE000_0002,
+    0xE000_0003,
+];
+
+/// The same score with an abort for agent 0, which input 1 reaches.
+fn s_aborting_with_fact() -> Vec<u32> {
+    replaced(&S, &[(2, abort()), (8, fact(3))])
+}
+
+/// Its journal over {}, {1} and {}.
+const ABORTED_JOURNAL: [u32; 5] = [0xC000_0000, 0xE000_0003, 0xC000_0002, 0xD000_0001, 0xC000_0002];
+
+fn facts() -> Vec<Case> {
+    let awake_2 = || state_bytes(RUNNING, [2]);
+    let aborted = || State::Aborted.bytes();
+    let two = [0xC000_0000, 0xC000_0000];
+    let refusal = |name, word, number| {
+        case(name, move |met| {
+            let lent = lent(&replaced(&S, &[(8, word)]), start(), &inputs(), 64);
+            run(met, &lent, refused(number, 8), &[], &start())
+        })
+    };
+    vec![
+        refusal("a fact that has a premise: 4", fact(3) | 1 << 16, 4),
+        refusal("a fact of token T: 5", fact(4), 5),
+        case("a fact is in the output of every instant", move |met| {
+            let lent = lent(&s_with_fact(), start(), &inputs(), 64);
+            run(met, &lent, Answer::Accepted(3), &JOURNAL_WITH_FACT, &awake_2())
+        }),
+        case("a fact clashes where the other premise is told", move |met| {
+            let score = [&S[..], &[fact(3)]].concat();
+            let journal = [(0, 0xC000_0001), (6, 0xC000_0001)];
+            let lent = lent(&score, start(), &inputs(), 64);
+            run(met, &lent, Answer::Accepted(3), &replaced(&JOURNAL_WITH_FACT, &journal), &awake_2())
+        }),
+        case("a fact of token 0 is a clash at every instant", move |met| {
+            let lent = lent(&replaced(&S, &[(8, fact(0))]), start(), &two, 64);
+            let clash = [0xC000_0001, 0xE000_0002, 0xE000_0003];
+            run(met, &lent, Answer::Accepted(2), &[clash, clash].concat(), &awake_2())
+        }),
+        case("a fact outside the ports shows in no instant", move |met| {
+            let lent = lent(&replaced(&S, &[(1, ports(2, 2)), (8, fact(3))]), start(), &two, 64);
+            run(met, &lent, Answer::Accepted(2), &two, &awake_2())
+        }),
+        case("a fact's word needs room: 15, one", move |met| {
+            let lent = lent(&s_with_fact(), start(), &two, 15);
+            run(met, &lent, refused(15, 1), &[0xC000_0000, 0xE000_0003], &awake_2())
+        }),
+        case("no fact once aborted", move |met| {
+            let list = [0xC000_0000, 0xC000_0000, 0xD000_0001, 0xC000_0000];
+            let lent = lent(&s_aborting_with_fact(), start(), &list, 64);
+            run(met, &lent, Answer::Accepted(3), &ABORTED_JOURNAL, &aborted())
+        }),
+        case("no fact in an aborted state", move |met| {
+            let lent = lent(&s_with_fact(), aborted(), &two, 64);
+            run(met, &lent, Answer::Accepted(2), &[0xC000_0002, 0xC000_0002], &aborted())
+        }),
+    ]
+}
+
+/// A journal without the word at a place.
+fn without(journal: &[u32], at: usize) -> Vec<u8> {
+    to_bytes(&[&journal[..at], &journal[at + 1..]].concat())
+}
+
+/// A journal with the fact's word before a place.
+fn with_fact_at(journal: &[u32], at: usize) -> Vec<u8> {
+    to_bytes(&[&journal[..at], &[output_word(3)], &journal[at..]].concat())
+}
+
+fn journals_with_facts() -> Vec<Case> {
+    let lacking = |name, at, instant| {
+        case(name, move |met| check(met, &s_with_fact(), without(&JOURNAL_WITH_FACT, at), refused(14, instant)))
+    };
+    let adding = |name, at, instant| {
+        case(name, move |met| {
+            check(met, &s_aborting_with_fact(), with_fact_at(&ABORTED_JOURNAL, at), refused(14, instant))
+        })
+    };
+    vec![
+        case("a journal with a fact", |met| {
+            check(met, &s_with_fact(), to_bytes(&JOURNAL_WITH_FACT), Answer::Accepted(3))
+        }),
+        lacking("a journal lacks the fact's word: 14, instant 0", 3, 0),
+        lacking("a journal lacks the fact's word: 14, instant 1", 5, 1),
+        lacking("a journal lacks the fact's word: 14, instant 2", 10, 2),
+        case("S's journal is not that of S with a fact: 14", |met| {
+            check(met, &s_with_fact(), to_bytes(&JOURNAL), refused(14, 0))
+        }),
+        case("the journal of S with a fact is not that of S: 14", |met| {
+            check(met, &S, to_bytes(&JOURNAL_WITH_FACT), refused(14, 0))
+        }),
+        case("status 0 where a fact is the clash: 14", |met| {
+            let journal = to_bytes(&[0xC000_0000, 0xE000_0002, 0xE000_0003]);
+            check(met, &replaced(&S, &[(8, fact(0))]), journal, refused(14, 0))
+        }),
+        case("the journal of an abort beside a fact", |met| {
+            check(met, &s_aborting_with_fact(), to_bytes(&ABORTED_JOURNAL), Answer::Accepted(3))
+        }),
+        adding("a fact in the instant of the abort: 14, instant 1", 4, 1),
+        adding("a fact in an instant after the abort: 14, instant 2", 5, 2),
+    ]
+}
+
 /// More instants than 16 bits count.
 const MANY: usize = 70_000;
 
@@ -205,14 +328,14 @@ fn large_values() -> Vec<Case> {
         case("a list's fault at word 2^24 + 1: 13", move |met| {
             let lent = lent(&S, start(), &last(VERY_MANY, 0), 0);
             let (answer, _) = library::run(&lent, 0, GUARDS[0])?;
-            met.count("run", answer);
+            met.count("run", &lent.score, answer);
             same(answer, refused(13, VERY_MANY as u64 - 1))
         }),
         case("a journal's fault at word 2^24 + 1: 13", move |met| {
             let journal = to_bytes(&last(VERY_MANY, instant_word(3)));
             let lent = JournalCheckLent { score: to_bytes(&S), journal, scratch: vec![OLD; SCRATCH_BYTES] };
             let (answer, _) = library::journal_check(&lent, 0, GUARDS[0])?;
-            met.count("journal check", answer);
+            met.count("journal check", &lent.score, answer);
             same(answer, refused(13, VERY_MANY as u64 - 1))
         }),
     ]

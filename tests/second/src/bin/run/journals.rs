@@ -28,24 +28,32 @@ fn of_small_run(random: &mut Random, most_instants: u32) -> JournalCheckLent {
     of_run(random, score, most_instants)
 }
 
+fn check_to_end(met: &mut Met, random: &mut Random, lent: &JournalCheckLent) -> Outcome {
+    let answer = judge::journal_check(met, random, lent)?;
+    known(answer, answer == Answer::Accepted(instants(&lent.journal).len() as u64))
+}
+
 pub fn accepted(met: &mut Met, random: &mut Random, _: u64) -> Outcome {
     let score = scenes::score(random);
     let lent = of_run(random, score, 12);
-    let answer = judge::journal_check(met, random, &lent)?;
-    known(answer, answer == Answer::Accepted(instants(&lent.journal).len() as u64))
+    check_to_end(met, random, &lent)
+}
+
+pub fn of_scores_without_facts(met: &mut Met, random: &mut Random, _: u64) -> Outcome {
+    let score = scenes::score_without_facts(random);
+    let lent = of_run(random, score, 12);
+    check_to_end(met, random, &lent)
 }
 
 pub fn of_special_scores(met: &mut Met, random: &mut Random, _: u64) -> Outcome {
     let score = scenes::special_score(random);
     let lent = of_run(random, score, 4);
-    let answer = judge::journal_check(met, random, &lent)?;
-    known(answer, answer == Answer::Accepted(instants(&lent.journal).len() as u64))
+    check_to_end(met, random, &lent)
 }
 
 pub fn long(met: &mut Met, random: &mut Random, _: u64) -> Outcome {
     let mut lent = of_small_run(random, 3_000);
-    let answer = judge::journal_check(met, random, &lent)?;
-    known(answer, answer == Answer::Accepted(instants(&lent.journal).len() as u64))?;
+    check_to_end(met, random, &lent)?;
     if !lent.journal.is_empty() {
         damage_words(random, &mut lent.journal);
     }

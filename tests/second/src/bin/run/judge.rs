@@ -12,7 +12,7 @@ pub fn run(met: &mut Met, random: &mut Random, lent: &RunLent) -> Result<(Answer
     let offset = random.below(8) as usize;
     for guard in guards(random) {
         let got = library::run(lent, offset, guard)?;
-        met.count("run", got.0);
+        met.count("run", &lent.score, got.0);
         same_call(&expected, &got).map_err(|difference| format!("run: {difference}{}", shown(lent)))?;
     }
     Ok(expected)
@@ -23,7 +23,7 @@ pub fn journal_check(met: &mut Met, random: &mut Random, lent: &JournalCheckLent
     let offset = random.below(8) as usize;
     for guard in guards(random) {
         let got = library::journal_check(lent, offset, guard)?;
-        met.count("journal check", got.0);
+        met.count("journal check", &lent.score, got.0);
         same_call(&expected, &got).map_err(|difference| format!("journal check: {difference}{}", shown(lent)))?;
     }
     Ok(expected.0)

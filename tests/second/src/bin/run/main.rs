@@ -1,6 +1,7 @@
 //! Holds the library's score_run and score_journal_check to the second engine: every answer, and every byte of every
 //! buffer.
 
+mod added_fact;
 mod calls_in_turn;
 mod cases;
 #[path = "../instant/library.rs"]
@@ -15,7 +16,8 @@ use second::tests::{self, Category, Tests, Trial};
 use std::process::ExitCode;
 
 const CATEGORIES: &[Category<Trial>] = &[
-    ("runs with room enough", 20_000, runs::accepted),
+    ("runs with room enough", 15_000, runs::accepted),
+    ("runs of scores without facts", 5_000, runs::of_scores_without_facts),
     ("runs of special scores", 800, runs::of_special_scores),
     ("long runs", 30, runs::long),
     ("runs with any room", 10_000, runs::with_any_room),
@@ -29,7 +31,8 @@ const CATEGORIES: &[Category<Trial>] = &[
     ("runs with several faults", 10_000, runs::several_faults),
     ("runs of scores of the score check", 12_000, runs::of_checked_scores),
     ("runs split", 4_000, runs::split),
-    ("journals of runs", 20_000, journals::accepted),
+    ("journals of runs", 15_000, journals::accepted),
+    ("journals of scores without facts", 5_000, journals::of_scores_without_facts),
     ("journals of special scores", 800, journals::of_special_scores),
     ("long journals", 30, journals::long),
     ("journals with every status changed", 1_000, journals::every_status_changed),
@@ -43,6 +46,7 @@ const CATEGORIES: &[Category<Trial>] = &[
     ("journals with several faults", 10_000, journals::several_faults),
     ("journals of scores of the score check", 12_000, journals::of_checked_scores),
     ("calls in turn on one state", 6_000, calls_in_turn::any_calls),
+    ("a fact added of what is always in the store", 4_000, added_fact::changes_nothing),
 ];
 
 fn test(tests: &mut Tests) {
@@ -50,6 +54,9 @@ fn test(tests: &mut Tests) {
     tests.categories(CATEGORIES, |trial, met, random, index| trial(met, random, index));
     tests.require_numbers("run", (0..=9).chain([12, 13, 15]));
     tests.require_numbers("journal check", (0..=8).chain(12..=14));
+    tests.require_facts("run");
+    tests.require_facts("journal check");
+    tests.require_facts_added();
 }
 
 fn main() -> ExitCode {

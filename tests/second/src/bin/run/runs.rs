@@ -20,10 +20,20 @@ fn small_lawful(random: &mut Random, most_instants: u32) -> RunLent {
 }
 
 /// With room enough every list is run to its end.
+fn run_to_end(met: &mut Met, random: &mut Random, lent: &RunLent) -> Outcome {
+    let (answer, _) = judge::run(met, random, lent)?;
+    known(answer, answer == Answer::Accepted(instants(&lent.inputs).len() as u64))
+}
+
 pub fn accepted(met: &mut Met, random: &mut Random, _: u64) -> Outcome {
     let lent = any_lawful(random, 12);
-    let (answer, _) = judge::run(met, random, &lent)?;
-    known(answer, answer == Answer::Accepted(instants(&lent.inputs).len() as u64))
+    run_to_end(met, random, &lent)
+}
+
+pub fn of_scores_without_facts(met: &mut Met, random: &mut Random, _: u64) -> Outcome {
+    let score = scenes::score_without_facts(random);
+    let lent = lawful::run(random, score, 12);
+    run_to_end(met, random, &lent)
 }
 
 pub fn of_special_scores(met: &mut Met, random: &mut Random, _: u64) -> Outcome {
