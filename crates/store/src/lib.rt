@@ -35,9 +35,9 @@ fn take_facts(s: &[u8], from: usize, store: &mut Tokens)
     requires { ⌜ length (now store) ≡ 256 ⌝ }
     ensures { λ _. ⌜ FactsTaken (decode (now (s .entry))) (now (store .entry)) (now (store .exit)) ⌝ }
 {
-    let count = words::word_count(s);
+    let end = words::word_count(s);
     let mut k = from;
-    while k < count {
+    while k < end {
         let w = words::word_at(s, k);
         if format::is_fact(w) {
             let token = format::number(w, 0, 8);

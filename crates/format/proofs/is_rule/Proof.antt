@@ -1,8 +1,9 @@
 -- `format::is_rule`: a fact by its kind and the bits above its conclusion, any other rule by its kind and its unnamed bits.
-use mathlib.Core.Path.{sym, ap₂, _∙_}
+use mathlib.Core.Path.{_≡_, sym, ap₂, _∙_}
 use mathlib.Core.Bool.{_&&_}
 use lib.Dec.{eqb}
 use borrow.Author.Needs.{needs}
+use Rattle.words.specs.Word.{field}
 use Rattle.format.proofs.Rule.{rule-fact, rule-plain}
 use Rattle.format.proofs.is_rule.Statement.{statement}
 use Rattle.format.proofs.is_rule.Tie as tie
@@ -22,7 +23,8 @@ is-word-requires c κs = search needs
 returns : tie.Need-returns
 returns c =
     let b = c .before .before .before .before in
-    ap₂ (λ k n. eqb k 2 && eqb n 0) (c .before .bits .ensures) (c .bits2 .ensures)
+    let above : c .bits2 .result ≡ field (b .args .w) 8 19 = c .bits2 .ensures in
+    ap₂ (λ k n. eqb k 2 && eqb n 0) (c .before .bits .ensures) above
     ∙ sym (rule-fact (b .args .w) (sym (c .before .before .before .is-fact .ensures) ∙ c .before .before .if1 .taken))
 
 returns-2 : tie.Need-returns-2

@@ -15,10 +15,10 @@ use Rattle.store.proofs.take_facts.Statement.{statement}
 use Rattle.store.proofs.take_facts.Tie as tie
 
 abbrev Inv-loop : tie.InvT-loop
-Inv-loop s from store₀ count k₀ store k = (count ≡ length (words s)) × (rulesFrom s ≤ k) × Taking s k store₀ store
+Inv-loop s from store₀ end k₀ store k = (end ≡ length (words s)) × (rulesFrom s ≤ k) × Taking s k store₀ store
 
 abbrev μ-loop : tie.MeasureT-loop
-μ-loop s from store₀ count k₀ store k = count - k
+μ-loop s from store₀ end k₀ store k = end - k
 
 word-count-requires : tie.Need-word-count-requires Inv-loop μ-loop
 word-count-requires c κs = search needs
@@ -54,12 +54,12 @@ loop-again c =
     let word = c .before .before .word-at .ensures in
     let answer = c .before .is-fact .ensures ∙ ap isFact word in
     ⊎-elim
-    (λ w. rw (w .2) (
+    (λ w. let set-bit : c .before .is-fact .result ≡ true = w .0 .taken in rw (w .2) (
       l .inv .0,
       omega arith,
       subst⁻¹ (λ t. Taking s (l .k + 1) (b .args .store .now) (set (l .store) t true))
           (w .1 .ensures ∙ ap (λ x. field x 0 8) word)
-          (taking-taken s (l .k) (b .args .store .now) (l .store) (l .inv .2) (l .inv .1) (omega arith) (sym answer ∙ w .0 .taken)),
+          (taking-taken s (l .k) (b .args .store .now) (l .store) (l .inv .2) (l .inv .1) (omega arith) (sym answer ∙ set-bit)),
     ))
     (λ w. rw (w .1) (
       l .inv .0,

@@ -2,14 +2,23 @@
 use mathlib.Core.Path.{_≡_, sym, _∙_}
 use mathlib.Core.Bool.{true, false}
 use mathlib.Core.List.{_∷_}
+use Prim.Native.Nat.{ℕ}
 use native.Mathlib.Omega.{arith}
 use borrow.Author.Tests.{le-leb, lt-leb, not-true, not-false}
 use borrow.Author.Needs.{needs}
+use lib.Dec.{leb}
 use Rattle.words.specs.Word.{field}
+use Rattle.format.specs.declared.Sizes.{Sizes}
 use Rattle.format.specs.Format.{isFact, isRule, ruleOf}
+use Rattle.verdicts.specs.declared.Verdict.the-variants.{Accepted}
+use Rattle.wordfaults.specs.WordFaults.{ruleVerdict}
 use Rattle.wordfaults.proofs.AtWord.{form-first}
 use Rattle.wordfaults.proofs.rule_verdict.Statement.{statement}
 use Rattle.wordfaults.proofs.rule_verdict.Tie as tie
+
+-- a fact is taken by its conclusion alone
+fact-taken : (h : Sizes) (k w : ℕ) → isRule w ≡ true → isFact w ≡ true → leb (h .tokens) (field w 0 8) ≡ false → Accepted ≡ ruleVerdict h k w
+fact-taken h k w formed fact known = rw (formed, fact, known)
 
 is-rule-requires : tie.Need-is-rule-requires
 is-rule-requires c κs = search needs
@@ -37,11 +46,9 @@ is-fact-requires c κs = search needs
 returns-3 : tie.Need-returns-3
 returns-3 c =
     let b = c .before .before .before .before .before .before .before in
-    rw (
-      formed (c .before .before .before .before .before),
-      sym (c .before .is-fact .ensures) ∙ c .if3 .taken,
-      lt-leb (b .args .sizes .tokens) (field (b .args .w) 0 8) (omega arith),
-    )
+    fact-taken (b .args .sizes) (b .args .k) (b .args .w) (formed (c .before .before .before .before .before))
+    (sym (c .before .is-fact .ensures) ∙ c .if3 .taken)
+    (lt-leb (b .args .sizes .tokens) (field (b .args .w) 0 8) (omega arith))
 
 -- and no fact
 plain : (c : tie.Else3) → isFact (c .before .before .before .before .before .before .before .args .w) ≡ false
