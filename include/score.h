@@ -12,7 +12,8 @@
  * as it should be is refused by number.
  *
  * T, N and P are a score's counts of tokens, agents and procedures. Words, agents, procedures and instants are numbered
- * from 0.
+ * from 0. A score's rules may have standing facts among them: rules without premises, whose tokens are in the store of
+ * every instant that does not abort, told or not, and so is what follows from them.
  */
 #ifndef SCORE_H
 #define SCORE_H
@@ -75,7 +76,8 @@ enum {
     SCORE_LENGTH = 1,       /* score: no bytes, not a multiple of 4, or more than SCORE_MAX_BYTES */
     SCORE_HEAD = 2,         /* score: word 0 is not a head, or has an unnamed bit set */
     SCORE_COUNT = 3,        /* score: fewer than 2+N+P words, or more than 2+N+P+256 */
-    SCORE_FORM = 4,         /* score: a word's kind is wrong for its place, or an unnamed bit is set; value: the word */
+    SCORE_FORM = 4,         /* score: a word's kind is wrong for its place, an unnamed bit is set, or a standing fact
+                               has a bit for a premise; value: the word */
     SCORE_TOKEN = 5,        /* score: a token is T or above; value: the word */
     SCORE_REFERENCE = 6,    /* score: a body or half not below its agent, a root N or above, a procedure P or above,
                                or the lowest port above the highest; value: the word */
@@ -120,7 +122,7 @@ SCORE_MUST_USE uint64_t score_check(const uint8_t *score, size_t score_len);
  *   input    the instant's input tokens, a map.
  * Lent to be written:
  *   state    the agents awake; afterwards those awake next;
- *   store    afterwards the map of the tokens in the store at the instant's end;
+ *   store    afterwards the map of the tokens in the store at the instant's end, standing facts among them;
  *   output   afterwards the map of those of them from the lowest to the highest port;
  *   scratch  the call's working space.
  * To start a score, lend its start state; for each later instant lend the state as the last one left it.

@@ -1,13 +1,12 @@
 -- A score without facts is checked, played and journalled as before.
 --     calls-before       every call does what it did
 --     without-facts      the theorem
-use mathlib.Core.Path.{_≡_, sym, ap, subst, _∙_}
+use mathlib.Core.Path.{_≡_, ap, subst, _∙_}
 use mathlib.Core.List.{List, _++_}
 use Prim.Native.Nat.{ℕ, _*_}
 use lib.ListN.{length, take, drop}
 use Rattle.tcc.specs.Score.{Score}
 use Rattle.tcc.specs.Instant.{startState}
-use Rattle.format.specs.Decode.{decode}
 use Rattle.verdicts.specs.Verdicts.{numberOf}
 use Rattle.scorefile.specs.Check.{verdict}
 use Rattle.bits.specs.Bits.{bytesOf}

@@ -142,7 +142,7 @@ module _ (s : List ℕ) (k : ℕ) (before after : List Bool) (added : ℕ) (h : 
     settled = λ facts still j from lt. by-cases (decLt j k)
         (λ l. h .settled facts still j from l)
         (λ g. let here : k ≡ j = omega arith in subst (λ i. Passes (λ t. List·Memᴰ t (setOf after)) (ruleOf (wordAt s i))) here
-            (adds-nothing after (wordAt s k) e (λ none. h .kept _ (facts (ruleOf (wordAt s k)) (rule-member s k start within) none))));
+        (adds-nothing after (wordAt s k) e (λ none. h .kept _ (facts (ruleOf (wordAt s k)) (rule-member s k start within) none))));
   }
 
   pub passing-added : rulesFrom s ≤ k → k < length (words s) → adds after (wordAt s k) ≡ true → Passing s (k + 1) before (set after (field (wordAt s k) 0 8) true) (added + 1)
