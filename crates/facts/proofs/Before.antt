@@ -33,10 +33,10 @@ use Rattle.faults.proofs.Accepted.{rules-formed}
 use Rattle.circles.specs.Circles.{circleFrom}
 use Rattle.scorefile.specs.Check.{verdict}
 use Rattle.scorefile.proofs.Lawful.{accepted-faultless}
-use Rattle.facts.specs.WithoutFacts.{ruleBefore, ruleVerdictBefore, wordVerdictBefore, firstFaultBefore, decodeBefore, verdictBefore, NoFact, WordsBefore}
+use Rattle.facts.specs.WithoutFacts.{ruleBefore, ruleVerdictBefore, wordVerdictBefore, firstFaultBefore, decodeBefore, verdictBefore, NoFact, WordBefore}
 
 module _ (w : ℕ) where
-  pub word-before : field w 27 1 ≡ 0 → WordsBefore w
+  pub word-before : field w 27 1 ≡ 0 → WordBefore w
   word-before e = record {
     rule = ap (λ l. record { premises = l; conclusion = field w 0 8 }) (premises-plain w plain);
     verdict = λ h k. rw (rule-plain w plain, plain);

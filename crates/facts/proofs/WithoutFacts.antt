@@ -1,53 +1,112 @@
 -- A score without facts is checked, played and journalled as before.
---     calls-before       every call does what it did
+--     turned-before      each call turns the score down as it did, or goes on
+--     instant-before, run-before, check-before     so each does what it did
+--     run-from-before, check-from-before     the instants of a run and of a journal check
 --     without-facts      the theorem
-use mathlib.Core.Path.{_≡_, ap, subst, _∙_}
-use mathlib.Core.List.{List, _++_}
-use Prim.Native.Nat.{ℕ, _*_}
-use lib.ListN.{length, take, drop}
-use Rattle.tcc.specs.Score.{Score}
-use Rattle.tcc.specs.Instant.{startState}
+use mathlib.Core.Path.{_≡_, refl, ap, subst, _∙_}
+use mathlib.Core.Bool.{true, false, cond, not}
+use mathlib.Core.List.{List, [], _∷_}
+use Prim.Native.Nat.{ℕ, suc, _-_, _*_}
+use native.Mathlib.Decide.{ℕ-discrete}
+use borrow.Author.Tests.{eq-eqb, ne-eqb}
+use lib.Dec.{eqb}
+use lib.ListN.{length}
+use Rattle.tcc.specs.Instant.{startState, answer, after}
+use Rattle.words.specs.Word.{words}
+use Rattle.format.specs.Decode.{sizes}
+use Rattle.verdicts.specs.declared.Verdict.{Verdict}
 use Rattle.verdicts.specs.Verdicts.{numberOf}
 use Rattle.scorefile.specs.Check.{verdict}
-use Rattle.bits.specs.Bits.{bytesOf}
-use Rattle.lent.specs.States.{asBytes}
-use Rattle.parts.specs.Instants.{inputLists}
-use Rattle.journal.specs.History.{history, IsHistory}
-use Rattle.run.specs.RunCall.{Lent}
-use Rattle.answer.specs.Answer.{packed, numberIn, valueIn}
-use Rattle.answer.specs.Replies.{ofVerdict}
-use Rattle.demands.specs.Calls.{written}
-use Rattle.demands.specs.Operational.{ByTheRules}
-use Rattle.demands.proofs.Calls.{linked}
-use Rattle.demands.proofs.Linked.{linked-each}
-use Rattle.demands.proofs.Operational.{operational}
-use Rattle.demands.proofs.JournalExact.{exactly, runs-accepted}
-use Rattle.facts.specs.WithoutFacts.{verdictBefore, NoFact, CallsBefore, WithoutFacts}
+use Rattle.lent.specs.Lengths.{scratchBytes, noScratch}
+use Rattle.lent.specs.States.{stateFault, stateOf, asBytes}
+use Rattle.maps.specs.Maps.{tokensIn}
+use Rattle.instant.specs.InstantCall.{Lent, lengthFault, tokenFault, kept, cleared, answered, exit}
+use Rattle.instant.specs.declared.Reply.the-variants.{Score as Turned, Lengths, State, Input, Next}
+use Rattle.form.specs.Form.{formOf}
+use Rattle.parts.specs.Instants.{instantsIn, inputsIn, inputLists}
+use Rattle.journal.specs.History.{entry}
+use Rattle.history.specs.declared.Reply.the-variants as reply
+use Rattle.history.specs.AnswerIn.{answerIn}
+use Rattle.history.specs.ByForm.{byForm}
+use Rattle.runlist.specs.Run.{stopAt, unlessStopped, runFrom}
+use Rattle.run.specs.RunCall as run
+use Rattle.journalcheck.specs.Check.{same, checkFrom}
+use Rattle.journalcheck.specs.JournalCheckCall as journalcheck
+use Rattle.answer.specs.Answer.{packed}
+use Rattle.answer.specs.Replies.{ofVerdict, ofReply, ofRunReply}
+use Rattle.facts.specs.WithoutFacts.{decodeBefore, verdictBefore, instantBefore, runFromBefore, runBefore, checkFromBefore, checkBefore, NoFact, CallsBefore, WithoutFacts}
 use Rattle.facts.proofs.Before.{word-before, verdict-before, score-before}
 
--- what a run writes, by what its score stands for
-abbrev Writes : List ℕ → Lent → Lent → ℕ → Score → Type 0
-Writes inputs before after answer sc =
-    let h = history sc (startState sc) (take (written answer) (inputLists inputs)) in
-    after .journal ≡ bytesOf h ++ drop (4 * length h) (before .journal)
-
 module _ (score : List ℕ) (no-fact : NoFact score) where
-  still-accepted : numberOf (verdictBefore score) ≡ 0 → numberOf (verdict score) ≡ 0
-  still-accepted e = ap numberOf (verdict-before score no-fact) ∙ e
+  turned-before : {E : Type 0} (down : Verdict → E) (on on′ : E) → (numberOf (verdict score) ≡ 0 → on ≡ on′) →
+      cond (not (eqb (numberOf (verdict score)) 0)) (down (verdict score)) on ≡ cond (not (eqb (numberOf (verdictBefore score)) 0)) (down (verdictBefore score)) on′
+  turned-before {E} down on on′ same-on = subst (λ v. by (verdict score) on ≡ by v on′) (verdict-before score no-fact) (go (ℕ-discrete (numberOf (verdict score)) 0))
+    where
+      by : Verdict → E → E
+      by v x = cond (not (eqb (numberOf v) 0)) (down v) x
+
+      go : Dec (numberOf (verdict score) ≡ 0) → by (verdict score) on ≡ by (verdict score) on′
+      go (yes e) = rw (eq-eqb (numberOf (verdict score)) 0 e) (same-on e)
+      go (no n) = rw (ne-eqb (numberOf (verdict score)) 0 n)
+
+  instant-before : (input : List ℕ) (l : Lent) → exit score input l ≡ instantBefore score input l
+  unfolding exit
+  instant-before input l = turned-before (λ v. kept l (Turned v)) _ _ (λ accepted.
+      ap (λ sc. let a = answer sc (stateOf (l .state)) (tokensIn input) in
+      cond (lengthFault input l) (kept l Lengths)
+      (cond (stateFault (sizes score .agents) (l .state)) (kept l State)
+      (cond (tokenFault score input) (kept l Input)
+      (cond (stateFault (sizes score .agents) (asBytes (after a))) (cleared l Next) (answered sc a)))))
+      (score-before score no-fact accepted))
+
+  module _ (accepted : numberOf (verdict score) ≡ 0) where
+    run-from-before : (l : List (List ℕ)) (state : List ℕ) (room : ℕ) → runFrom score state room l ≡ runFromBefore score state room l
+    unfolding runFrom answerIn
+    run-from-before [] state room = refl
+    run-from-before (inputs ∷ more) state room =
+        let a = answer (decodeBefore score) (stateOf state) inputs in
+        let e = entry (decodeBefore score) inputs a in
+        ap (λ sc. let b = answer sc (stateOf state) inputs in let f = entry sc inputs b in
+        unlessStopped (stopAt score b (4 * length f) room) state f (runFrom score (asBytes (after b)) (room - 4 * length f) more))
+        (score-before score no-fact accepted)
+        ∙ ap (unlessStopped (stopAt score a (4 * length e) room) state e) (run-from-before more (asBytes (after a)) (room - 4 * length e))
+
+    check-from-before : (l : List (List ℕ)) (state : List ℕ) (read : ℕ) → checkFrom score state read l ≡ checkFromBefore score state read l
+    unfolding checkFrom answerIn
+    check-from-before [] state read = refl
+    check-from-before (ws ∷ more) state read =
+        let a = answer (decodeBefore score) (stateOf state) (inputsIn ws) in
+        ap (λ sc. let b = answer sc (stateOf state) (inputsIn ws) in
+        cond (stateFault (sizes score .agents) (asBytes (after b))) reply.Unlawful
+        (cond (same ws (entry sc (inputsIn ws) b)) (checkFrom score (asBytes (after b)) (suc read) more) (reply.Differs read)))
+        (score-before score no-fact accepted)
+        ∙ ap (λ r. cond (stateFault (sizes score .agents) (asBytes (after a))) reply.Unlawful (cond (same ws (entry (decodeBefore score) (inputsIn ws) a)) r (reply.Differs read)))
+        (check-from-before more (asBytes (after a)) (suc read))
+
+  run-before : (inputs : List ℕ) (l : run.Lent) → run.exit score inputs l ≡ runBefore score inputs l
+  unfolding run.exit
+  run-before inputs l = turned-before (λ v. run.kept l (reply.Score v)) _ _ (λ accepted.
+      ap (λ r. cond (run.lengthFault l) (run.kept l reply.Lengths)
+      (cond (stateFault (sizes score .agents) (l .state)) (run.kept l reply.State)
+      (byForm (formOf false (sizes score .tokens) inputs) (run.kept l) (run.ended l r))))
+      (run-from-before accepted (inputLists inputs) (l .state) (length (l .journal))))
+
+  check-before : (journal l : List ℕ) → journalcheck.exit score journal l ≡ checkBefore score journal l
+  unfolding journalcheck.exit
+  check-before journal l = turned-before (λ v. journalcheck.left l (reply.Score v)) _ _ (λ accepted.
+      ap (λ r. cond (not (eqb (length l) scratchBytes)) (journalcheck.left l reply.Lengths)
+      (byForm (formOf true (sizes score .tokens) journal) (journalcheck.left l) (journalcheck.left noScratch r)))
+      (ap (λ sc. checkFrom score (asBytes (startState sc)) 0 (instantsIn (words journal))) (score-before score no-fact accepted)
+      ∙ check-from-before accepted (instantsIn (words journal)) (asBytes (startState (decodeBefore score))) 0))
 
   calls-before : CallsBefore score
   calls-before = record {
     verdict-is = verdict-before score no-fact;
-    score-is = λ e. score-before score no-fact (still-accepted e);
-    check = λ answer c. c .answered ∙ ap (λ v. packed (ofVerdict v)) (verdict-before score no-fact);
-    instants = λ first last calls answered turn answers p m.
-        subst (λ sc. ByTheRules sc p) (score-before score no-fact (linked-each (linked turn answers) p m .accepted)) (operational score first last calls answered turn answers p m);
-    runs = λ inputs before after answer e at c.
-        subst (λ (sc : Score). before .state ≡ asBytes (startState sc) → Writes inputs before after answer sc) (score-before score no-fact (still-accepted e))
-        (λ start. runs-accepted score inputs before after answer (still-accepted e) start c .0) at;
-    journals = λ journal before after answer n e long c.
-        subst (λ sc. ((numberIn answer ≡ 0) × (valueIn answer ≡ n) → IsHistory sc (startState sc) journal n) × (IsHistory sc (startState sc) journal n → (numberIn answer ≡ 0) × (valueIn answer ≡ n)))
-        (score-before score no-fact (still-accepted e)) (exactly score journal before after answer n (still-accepted e) long c);
+    score-is = λ e. score-before score no-fact (ap numberOf (verdict-before score no-fact) ∙ e);
+    checks = λ a c. c .answered ∙ ap (λ v. packed (ofVerdict v)) (verdict-before score no-fact);
+    instants = λ input l m a c. (c .written ∙ ap (λ x. x .lent) (instant-before input l), c .answered ∙ ap (λ x. packed (ofReply (x .reply))) (instant-before input l));
+    runs = λ inputs l m a c. (c .written ∙ ap (λ x. x .lent) (run-before inputs l), c .answered ∙ ap (λ x. packed (ofRunReply (x .reply))) (run-before inputs l));
+    journals = λ journal l m a c. (c .written ∙ ap (λ x. x .scratch) (check-before journal l), c .answered ∙ ap (λ x. packed (ofRunReply (x .reply))) (check-before journal l));
   }
 
 pub without-facts : WithoutFacts

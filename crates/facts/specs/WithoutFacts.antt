@@ -1,22 +1,23 @@
 -- "Scores without such words keep their journals byte for byte." A rule word before there were facts, and with it the score
--- check and what a score stands for; then what each call does with a score that has no fact, said by these alone.
+-- check, what a score stands for, and what each call does with every buffer lent, written out as they were.
 --     ruleBefore, ruleVerdictBefore     the rule of a word, and rows 4 and 5 at it
 --     verdictBefore, decodeBefore       the score check, and the score that bytes stand for
+--     instantBefore                     the instant call
+--     runFromBefore, runBefore          the run, instant by instant and as a call
+--     checkFromBefore, checkBefore      the journal check likewise
+--     WordBefore                        a word has the rule and the verdict of before
 --     NoFact                            a score has no rule word with bit 27 set
---     historyBefore                     the journal's words, of the first n instants of a list from the start state
---     WordsBefore                       a word with bit 27 clear has the rule and the verdict of before
---     CallsBefore                       every call does what it did: the check's answer; where the score is accepted, each
---                                       answered instant, what a run writes, and which journals are accepted
---     WithoutFacts                      both
+--     CallsBefore                       every call does with a score what it did, in every byte, and answers as it did
+--     WithoutFacts                      so with each word with bit 27 clear, and with each score without a fact
 use mathlib.Core.Path.{_≡_}
-use mathlib.Core.Bool.{cond, false}
-use mathlib.Core.List.{List, [], _∷_, _++_, map, List·Memᴰ}
+use mathlib.Core.Bool.{cond, true, false, not}
+use mathlib.Core.List.{List, [], _∷_, map}
 use Prim.Native.Nat.{ℕ, suc, _+_, _-_, _*_, _<_, _≤_}
-use lib.Dec.{ltb}
+use lib.Dec.{eqb, ltb}
 use lib.ListN.{length, take, drop}
 use Rattle.tcc.specs.Closure.{Rule}
 use Rattle.tcc.specs.Score.{Score}
-use Rattle.tcc.specs.Instant.{startState}
+use Rattle.tcc.specs.Instant.{Answer, startState, answer, after}
 use Rattle.words.specs.Word.{field, kind, words, wordAt}
 use Rattle.format.specs.declared.Sizes.{Sizes}
 use Rattle.format.specs.Format.{isWord, agentOf, decodeAgent, ruleOf}
@@ -28,19 +29,28 @@ use Rattle.wordfaults.specs.WordFaults.{atWord, portsVerdict, agentVerdict, roo
 use Rattle.faults.specs.Faults.{lengthVerdict, headVerdict, countVerdict}
 use Rattle.circles.specs.Circles.{circleFrom}
 use Rattle.scorefile.specs.Check.{verdict}
-use Rattle.bits.specs.Bits.{bytesOf}
-use Rattle.lent.specs.Lengths.{scratchBytes}
-use Rattle.lent.specs.States.{asBytes}
-use Rattle.parts.specs.Instants.{inputLists}
-use Rattle.journal.specs.History.{history, IsHistory}
-use Rattle.run.specs.RunCall.{Lent}
-use Rattle.answer.specs.Answer.{packed, numberIn, valueIn}
-use Rattle.answer.specs.Replies.{ofVerdict}
+use Rattle.lent.specs.Lengths.{scratchBytes, noScratch}
+use Rattle.lent.specs.States.{stateFault, stateOf, asBytes}
+use Rattle.maps.specs.Maps.{tokensIn}
+use Rattle.instant.specs.InstantCall.{Lent, Exit, lengthFault, tokenFault, kept, cleared, answered}
+use Rattle.instant.specs.declared.Reply.the-variants.{Score as Turned, Lengths, State, Input, Next}
+use Rattle.form.specs.Form.{formOf}
+use Rattle.parts.specs.Instants.{instantsIn, inputsIn, inputLists}
+use Rattle.journal.specs.History.{entry}
+use Rattle.history.specs.declared.Reply as history
+use Rattle.history.specs.declared.Reply.the-variants as reply
+use Rattle.history.specs.ByForm.{byForm}
+use Rattle.runlist.specs.declared.Stop.the-variants.{Not}
+use Rattle.runlist.specs.Run.{Ran, stopAt, stopped, unlessStopped}
+use Rattle.run.specs.RunCall as run
+use Rattle.journalcheck.specs.Check.{same}
+use Rattle.journalcheck.specs.JournalCheckCall as journalcheck
+use Rattle.answer.specs.Answer.{packed}
+use Rattle.answer.specs.Replies.{ofVerdict, ofReply, ofRunReply}
 use Rattle.score.specs.CheckCall.{CheckCall}
+use Rattle.score.specs.ScoreInstant.{ScoreInstant}
 use Rattle.score.specs.ScoreRun.{ScoreRun}
 use Rattle.score.specs.ScoreJournalCheck.{ScoreJournalCheck}
-use Rattle.demands.specs.Calls.{Call, InTurn, Answered, written, Answers}
-use Rattle.demands.specs.Operational.{ByTheRules}
 
 -- "conclusion 7..0, premises 15..8 and 23..16"
 abbrev pub ruleBefore : ℕ → Rule ℕ
@@ -79,29 +89,63 @@ verdictBefore s =
     (orElse (firstFaultBefore (sizes s) 1 (drop 1 (words s)))
     (circleFrom (decodeBefore s) 0 (length (decodeBefore s .roots))))))
 
-abbrev pub NoFact : List ℕ → Type 0
-NoFact s = (k : ℕ) → 2 + sizes s .agents + sizes s .procedures ≤ k → k < length (words s) → kind (wordAt s k) ≡ 2 → field (wordAt s k) 27 1 ≡ 0
+abbrev pub playedBefore : List ℕ → Lent → Answer → Exit
+playedBefore score l a = cond (stateFault (sizes score .agents) (asBytes (after a))) (cleared l Next) (answered (decodeBefore score) a)
 
-abbrev pub historyBefore : List ℕ → List ℕ → ℕ → List ℕ
-historyBefore score inputs n = history (decodeBefore score) (startState (decodeBefore score)) (take n (inputLists inputs))
+abbrev pub instantBefore : List ℕ → List ℕ → Lent → Exit
+instantBefore score input l =
+    cond (not (eqb (numberOf (verdictBefore score)) 0)) (kept l (Turned (verdictBefore score)))
+    (cond (lengthFault input l) (kept l Lengths)
+    (cond (stateFault (sizes score .agents) (l .state)) (kept l State)
+    (cond (tokenFault score input) (kept l Input)
+    (playedBefore score l (answer (decodeBefore score) (stateOf (l .state)) (tokensIn input))))))
 
-pub record WordsBefore (w : ℕ) : Type 0 where
+abbrev pub runFromBefore : List ℕ → List ℕ → ℕ → List (List ℕ) → Ran
+runFromBefore score state room [] = stopped state Not
+runFromBefore score state room (inputs ∷ more) =
+    let a = answer (decodeBefore score) (stateOf state) inputs in
+    let e = entry (decodeBefore score) inputs a in
+    unlessStopped (stopAt score a (4 * length e) room) state e (runFromBefore score (asBytes (after a)) (room - 4 * length e) more)
+
+abbrev pub runBefore : List ℕ → List ℕ → run.Lent → run.Exit
+runBefore score inputs l =
+    cond (not (eqb (numberOf (verdictBefore score)) 0)) (run.kept l (reply.Score (verdictBefore score)))
+    (cond (run.lengthFault l) (run.kept l reply.Lengths)
+    (cond (stateFault (sizes score .agents) (l .state)) (run.kept l reply.State)
+    (byForm (formOf false (sizes score .tokens) inputs) (run.kept l)
+    (run.ended l (runFromBefore score (l .state) (length (l .journal)) (inputLists inputs))))))
+
+abbrev pub checkFromBefore : List ℕ → List ℕ → ℕ → List (List ℕ) → history.Reply
+checkFromBefore score state read [] = reply.Accepted read
+checkFromBefore score state read (ws ∷ more) =
+    let a = answer (decodeBefore score) (stateOf state) (inputsIn ws) in
+    cond (stateFault (sizes score .agents) (asBytes (after a))) reply.Unlawful
+    (cond (same ws (entry (decodeBefore score) (inputsIn ws) a)) (checkFromBefore score (asBytes (after a)) (suc read) more) (reply.Differs read))
+
+abbrev pub checkBefore : List ℕ → List ℕ → List ℕ → journalcheck.Exit
+checkBefore score journal scratch =
+    cond (not (eqb (numberOf (verdictBefore score)) 0)) (journalcheck.left scratch (reply.Score (verdictBefore score)))
+    (cond (not (eqb (length scratch) scratchBytes)) (journalcheck.left scratch reply.Lengths)
+    (byForm (formOf true (sizes score .tokens) journal) (journalcheck.left scratch)
+    (journalcheck.left noScratch (checkFromBefore score (asBytes (startState (decodeBefore score))) 0 (instantsIn (words journal))))))
+
+pub record WordBefore (w : ℕ) : Type 0 where
   pub rule : ruleOf w ≡ ruleBefore w
   pub verdict : (h : Sizes) (k : ℕ) → ruleVerdict h k w ≡ ruleVerdictBefore h k w
 
+abbrev pub NoFact : List ℕ → Type 0
+NoFact s = (k : ℕ) → 2 + sizes s .agents + sizes s .procedures ≤ k → k < length (words s) → kind (wordAt s k) ≡ 2 → field (wordAt s k) 27 1 ≡ 0
+
 pub record CallsBefore (score : List ℕ) : Type 0 where
   pub verdict-is : verdict score ≡ verdictBefore score
-  pub check : (answer : ℕ) → CheckCall score answer → answer ≡ packed (ofVerdict (verdictBefore score))
   pub score-is : numberOf (verdictBefore score) ≡ 0 → decode score ≡ decodeBefore score
-  pub instants : (first last : List ℕ) (calls : List Call) (answered : List Answered) → InTurn score first calls last → Answers score calls answered →
-      (p : Answered) → List·Memᴰ p answered → ByTheRules (decodeBefore score) p
-  pub runs : (inputs : List ℕ) (before after : Lent) (answer : ℕ) → numberOf (verdictBefore score) ≡ 0 →
-      before .state ≡ asBytes (startState (decodeBefore score)) → ScoreRun score inputs before after answer →
-      after .journal ≡ bytesOf (historyBefore score inputs (written answer)) ++ drop (4 * length (historyBefore score inputs (written answer))) (before .journal)
-  pub journals : (journal before after : List ℕ) (answer n : ℕ) → numberOf (verdictBefore score) ≡ 0 → length before ≡ scratchBytes →
-      ScoreJournalCheck score journal before after answer →
-      ((numberIn answer ≡ 0) × (valueIn answer ≡ n) → IsHistory (decodeBefore score) (startState (decodeBefore score)) journal n)
-      × (IsHistory (decodeBefore score) (startState (decodeBefore score)) journal n → (numberIn answer ≡ 0) × (valueIn answer ≡ n))
+  pub checks : (a : ℕ) → CheckCall score a → a ≡ packed (ofVerdict (verdictBefore score))
+  pub instants : (input : List ℕ) (l m : Lent) (a : ℕ) → ScoreInstant score input l m a →
+      (m ≡ instantBefore score input l .lent) × (a ≡ packed (ofReply (instantBefore score input l .reply)))
+  pub runs : (inputs : List ℕ) (l m : run.Lent) (a : ℕ) → ScoreRun score inputs l m a →
+      (m ≡ runBefore score inputs l .lent) × (a ≡ packed (ofRunReply (runBefore score inputs l .reply)))
+  pub journals : (journal l m : List ℕ) (a : ℕ) → ScoreJournalCheck score journal l m a →
+      (m ≡ checkBefore score journal l .scratch) × (a ≡ packed (ofRunReply (checkBefore score journal l .reply)))
 
 abbrev pub WithoutFacts : Type 0
-WithoutFacts = ((w : ℕ) → field w 27 1 ≡ 0 → WordsBefore w) × ((score : List ℕ) → NoFact score → CallsBefore score)
+WithoutFacts = ((w : ℕ) → field w 27 1 ≡ 0 → WordBefore w) × ((score : List ℕ) → NoFact score → CallsBefore score)
