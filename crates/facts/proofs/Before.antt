@@ -11,18 +11,17 @@ use mathlib.Core.List.{List, [], _∷_}
 use Prim.Native.Nat.{ℕ, zero, suc, _+_, _-_, _<_, _≤_}
 use native.Mathlib.Decide.{ℕ-discrete}
 use native.Mathlib.Omega.{arith}
-use borrow.Author.Tests.{eqb-true, ltb-false}
-use lib.Dec.{eqb, ltb}
+use borrow.Author.Tests.{ltb-false}
+use lib.Dec.{ltb}
 use lib.ListN.{length, getD, drop, length-drop}
 use lib.Seq.{getD-drop}
-use Rattle.laws.proofs.Booleans.{and-both}
 use Rattle.laws.proofs.Lists.{map-entries}
 use Rattle.tcc.specs.Unguarded.{metFrom, circular}
 use Rattle.words.specs.Word.{field, kind, words, wordAt}
 use Rattle.format.specs.declared.Sizes.{Sizes}
-use Rattle.format.specs.Format.{clear, isWord, decodeAgent, isFact, isRule, ruleOf}
+use Rattle.format.specs.Format.{isWord, decodeAgent, isFact, isRule, ruleOf}
 use Rattle.format.specs.Decode.{sizes, decode}
-use Rattle.format.proofs.Rule.{rule-plain, rule-kind, premises-plain}
+use Rattle.format.proofs.Rule.{word-kind, rule-plain, rule-kind, premises-plain}
 use Rattle.verdicts.specs.Verdicts.{numberOf, orElse}
 use Rattle.verdicts.specs.declared.Verdict.the-variants.{Circle}
 use Rattle.verdicts.proofs.Verdicts.{accepted-only}
@@ -45,10 +44,6 @@ module _ (w : ℕ) where
       plain : isFact w ≡ false
       plain = rw e
 
-  word-kind : isWord 2 24 w ≡ true → kind w ≡ 2
-  unfolding isWord
-  word-kind e = eqb-true (kind w) 2 (and-both (eqb (kind w) 2) (clear 24 w) e .0)
-
   refuted : (b : Bool) → (b ≡ true → ⊥) → b ≡ false
   refuted true n = absurd (n refl)
   refuted false n = refl
@@ -60,7 +55,7 @@ module _ (w : ℕ) where
       go (yes e) = word-before (no-fact e) .verdict h k
       go (no n) =
           sym (form-first h k (ruleOf w .conclusion ∷ ruleOf w .premises) false (refuted (isRule w) (λ e. n (rule-kind w e))))
-          ∙ form-first h k (field w 0 8 ∷ field w 8 8 ∷ field w 16 8 ∷ []) false (refuted (isWord 2 24 w) (λ e. n (word-kind e)))
+          ∙ form-first h k (field w 0 8 ∷ field w 8 8 ∷ field w 16 8 ∷ []) false (refuted (isWord 2 24 w) (λ e. n (word-kind 2 24 w e)))
 
 placed-before : (h : Sizes) (k w : ℕ) → (2 + h .agents + h .procedures ≤ k → kind w ≡ 2 → field w 27 1 ≡ 0) → wordVerdict h k w ≡ wordVerdictBefore h k w
 unfolding wordVerdict
