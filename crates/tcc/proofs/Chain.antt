@@ -34,7 +34,7 @@ wakes-parts (Next b) = λ b m. m
 wakes-parts (Unless t b) = λ b m. m
 wakes-parts (Call p) = λ b m. elim m [ ]
 
-after-running : (a : Answer) → (a .status ≡ 2 → ⊥) → after a ≡ running (a .awake)
+pub after-running : (a : Answer) → (a .status ≡ 2 → ⊥) → after a ≡ running (a .awake)
 after-running a h = rw (ne-eqb (a .status) 2 h)
 
 module _ (sc : Score) (law : Lawful sc) where

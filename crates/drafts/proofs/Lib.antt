@@ -1,0 +1,17 @@
+pub mod Carries
+pub mod Whens
+pub mod Steps
+pub mod Awake
+pub mod Below
+pub mod WeightBound
+pub mod Finishes
+pub mod ChainExists
+pub mod Stopped
+pub mod Matching
+pub mod Stores
+pub mod Orders
+pub mod Sifting
+pub mod Ends
+pub mod Carried
+pub mod Absent
+pub mod Unwatched

@@ -1,0 +1,9 @@
+use tcc::Agent;
+
+// An agent of a draft, as it is written there.
+pub enum Written {
+    // An agent that a score may have.
+    Plain(Agent),
+    // The token watched for, then the body.
+    Watch(usize, usize),
+}
