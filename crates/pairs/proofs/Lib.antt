@@ -1,0 +1,2 @@
+pub mod TokenSets
+pub mod Rising

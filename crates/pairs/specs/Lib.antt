@@ -1,0 +1,3 @@
+pub mod TokenSets
+pub mod Pairs
+pub mod Rising
