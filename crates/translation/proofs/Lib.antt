@@ -1,0 +1,15 @@
+pub mod Places
+pub mod Copying
+pub mod RisingLists
+pub mod PlainPairs
+pub mod AskedLaws
+pub mod PlainScore
+pub mod PlainCalls
+pub mod PlainLawful
+pub mod Unchanged
+pub mod Different
+pub mod Askings
+pub mod Limits
+pub mod Asked
+pub mod Carrying
+pub mod Exact

@@ -1,0 +1,13 @@
+use verdicts::Verdict;
+
+// What a translation comes to.
+pub enum Reply {
+    // The draft is turned down.
+    Draft(Verdict),
+    // The buffer has another length than it should.
+    Lengths,
+    // The plain score passes a size limit.
+    Large,
+    // How many bytes the plain score has.
+    Written(usize),
+}
