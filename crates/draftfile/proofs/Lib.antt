@@ -1,0 +1,3 @@
+pub mod AsWhens
+pub mod WhenWord
+pub mod Draft

@@ -1,0 +1,2 @@
+pub mod DraftFile
+pub mod Translatable
