@@ -1,0 +1,4 @@
+pub mod Members
+pub mod Keys
+pub mod Asked
+pub mod Entering

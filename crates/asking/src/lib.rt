@@ -1,0 +1,126 @@
+ghost use mathlib.Core.Path.{_≡_};
+ghost use mathlib.Core.Bool.{true};
+ghost use mathlib.Core.List.{List·Memᴰ};
+ghost use Prim.Native.Nat.{ℕ, _<_, _≤_};
+ghost use lib.ListN.{length, getD};
+ghost use Rattle.format.specs.Decode.{sizes};
+ghost use Rattle.pairs.specs.TokenSets.{holds, members, several};
+ghost use Rattle.pairs.specs.Pairs.{setIn};
+ghost use Rattle.pairs.specs.Rising.{Rising};
+ghost use Rattle.rows.specs.Rows.{rowValue};
+ghost use Rattle.pairtable.specs.Tables.{keys};
+ghost use Rattle.translation.specs.Places.{places, agentPlaces};
+ghost use Rattle.translation.specs.Plain.{askedSets, askedToken, memberRules};
+ghost use Rattle.draftfile.specs.DraftFile.{decodeDraft};
+ghost use Rattle.draftfile.specs.Translatable.{Translatable};
+ghost use Rattle.asking.specs.Asking.{tokensNamed, askedBy, TokensBelow};
+use drafts::Written;
+use pairtable::Table;
+use rows::Row;
+use tcc::Agent;
+
+// The set that an agent under the set of a pair asks for at quiet, as a pair of number 0; the empty set where it asks for none.
+pub fn asked_by(written: Written, row: Row) -> Row
+    requires { ⌜ ((t : ℕ) → List·Memᴰ t (tokensNamed written) → t < 256) ⌝ }
+    ensures { λ r. ⌜ rowValue r ≡ askedBy (setIn (rowValue row)) written ⌝ }
+{
+    let nothing = rows::row_of(0);
+    let Written::Plain(agent) = written else {
+        return nothing;
+    };
+    match agent {
+        Agent::Skip => nothing,
+        Agent::Abort => nothing,
+        Agent::Tell(_) => nothing,
+        Agent::Parallel(_, _) => nothing,
+        Agent::When(_, _) => nothing,
+        Agent::Next(_) => rows::renumbered(row, 0),
+        Agent::Unless(token, _) => {
+            let own = rows::with_token(row, token);
+            rows::renumbered(own, 0)
+        }
+        Agent::Call(_) => nothing,
+    }
+}
+
+// Enters the asked sets of two tokens or more, and says how many there are.
+pub fn enter_asked(
+    draft: &[u8],
+    tokens: usize,
+    table: &Table,
+    agents: usize,
+    sets: &mut Table,
+) -> usize
+    requires { ⌜ Translatable (now draft) ⌝ }
+    requires { ⌜ tokens ≡ sizes (now draft) .tokens ⌝ }
+    requires { ⌜ length (now table) ≡ 1088 ⌝ }
+    requires { ⌜ length (now sets) ≡ 1088 ⌝ }
+    requires { ⌜ agents ≤ 1024 ⌝ }
+    requires { ⌜ keys agents (now table) ≡ agentPlaces (places (decodeDraft (now draft))) ⌝ }
+    ensures { λ r. ⌜ keys r (now (sets .exit)) ≡ askedSets (decodeDraft (now (draft .entry))) (agentPlaces (places (decodeDraft (now (draft .entry))))) ⌝ }
+    ensures { λ r. ⌜ r ≤ agents ⌝ }
+    ensures { λ _. ⌜ length (now (sets .exit)) ≡ 1088 ⌝ }
+{
+    let mut count = 0;
+    let mut k = 0;
+    while k < agents {
+        let row = table[k];
+        let asked = asked_by(draftfile::written_at(draft, rows::number_of(row)), row);
+        k += 1;
+        if 1 < rows::token_count(asked, tokens) {
+            count = pairtable::enter(sets, count, asked);
+        }
+    }
+    count
+}
+
+// How many tokens the sets have in sum.
+pub fn member_count(sets: &Table, count: usize, tokens: usize) -> usize
+    requires { ⌜ length (now sets) ≡ 1088 ⌝ }
+    requires { ⌜ count ≤ 1088 ⌝ }
+    requires { ⌜ tokens ≤ 256 ⌝ }
+    requires { ⌜ TokensBelow tokens (keys count (now sets)) ⌝ }
+    ensures { λ r. ⌜ r ≡ length (memberRules tokens (keys count (now (sets .entry)))) ⌝ }
+    ensures { λ r. ⌜ r ≤ 278528 ⌝ }
+{
+    let mut n = 0;
+    let mut s = 0;
+    while s < count {
+        n += rows::token_count(sets[s], tokens);
+        s += 1;
+    }
+    n
+}
+
+// The token that stands for a set that is not empty: its own where it has one, a new one where it has more.
+pub fn asked_token(set: Row, tokens: usize, sets: &Table, count: usize) -> usize
+    requires { ⌜ tokens ≤ 256 ⌝ }
+    requires { ⌜ ((t : ℕ) → holds (setIn (rowValue set)) t ≡ true → t < tokens) ⌝ }
+    requires { ⌜ length (now sets) ≡ 1088 ⌝ }
+    requires { ⌜ count ≤ 1088 ⌝ }
+    requires { ⌜ Rising (keys count (now sets)) ⌝ }
+    requires { ⌜ (several (setIn (rowValue set)) ≡ true → List·Memᴰ (setIn (rowValue set)) (keys count (now sets))) ⌝ }
+    ensures { λ r. ⌜ r ≡ askedToken tokens (keys count (now (sets .entry))) (setIn (rowValue set)) ⌝ }
+{
+    if 1 < rows::token_count(set, tokens) {
+        let key = rows::renumbered(set, 0);
+        return tokens + pairtable::place(sets, count, key);
+    }
+    lowest(set, tokens)
+}
+
+// The lowest token of a set; 0 where it has none.
+fn lowest(set: Row, tokens: usize) -> usize
+    requires { ⌜ tokens ≤ 256 ⌝ }
+    requires { ⌜ ((t : ℕ) → holds (setIn (rowValue set)) t ≡ true → t < tokens) ⌝ }
+    ensures { λ r. ⌜ r ≡ getD (members (setIn (rowValue set))) 0 0 ⌝ }
+{
+    let mut t = 0;
+    while t < tokens {
+        if rows::has_token(set, t) {
+            return t;
+        }
+        t += 1;
+    }
+    0
+}

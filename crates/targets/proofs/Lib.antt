@@ -1,0 +1,3 @@
+pub mod Translatable
+pub mod Targets
+pub mod Referring
