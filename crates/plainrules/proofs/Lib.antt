@@ -1,0 +1,4 @@
+pub mod Put
+pub mod Members
+pub mod Rules
+pub mod Asked
