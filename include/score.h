@@ -1,8 +1,9 @@
 /* score.h: the score engine.
  *
- * Four functions: score_check, score_instant, score_run and score_journal_check. Each is lent buffers for the call and
- * returns an answer of 64 bits, which the functions at the end of this file take apart. They use no heap and no global
- * state, and keep nothing of what they were lent.
+ * Five functions: score_check, score_instant, score_run and score_journal_check for a console, and score_translate
+ * for the desk at which scores are written. Each is lent buffers for the call and returns an answer of 64 bits,
+ * which the functions at the end of this file take apart. They use no heap and no global state, and keep nothing of
+ * what they were lent.
  *
  * A caller has three duties:
  *   - a pointer and its length describe memory that is there; with length 0 the pointer may be null;
@@ -14,6 +15,11 @@
  * T, N and P are a score's counts of tokens, agents and procedures. Words, agents, procedures and instants are numbered
  * from 0. A score's rules may have standing facts among them: rules without premises, whose tokens are in the store of
  * every instant that does not abort, told or not, and so is what follows from them.
+ *
+ * A draft is a score in which an agent may also be a watch: kind 15, body in bits 9..0, token in bits 17..10, other
+ * bits zero. Its body runs in the same instant, and goes on, still watched, unless the token was in the store when
+ * an instant was quiet. Only score_translate takes drafts; it makes a plain score of one, and that is what a
+ * console plays. For every other function a word of kind 15 is SCORE_FORM.
  */
 #ifndef SCORE_H
 #define SCORE_H
@@ -45,6 +51,7 @@ extern "C" {
 #define SCORE_STATE_BYTES 132
 #define SCORE_MAP_BYTES 32
 #define SCORE_SCRATCH_BYTES 2048
+#define SCORE_PLAIN_BYTES 5384 /* for a plain score */
 
 /* A map is a set of tokens: token t is bit t % 8 of byte t / 8.
  *
@@ -72,7 +79,8 @@ extern "C" {
 
 /* The numbers of answers. */
 enum {
-    SCORE_ACCEPTED = 0,     /* value: the instants written by a run, or read by a journal check */
+    SCORE_ACCEPTED = 0,     /* value: the instants written by a run, or read by a journal check; the bytes of a plain
+                               score */
     SCORE_LENGTH = 1,       /* score: no bytes, not a multiple of 4, or more than SCORE_MAX_BYTES */
     SCORE_HEAD = 2,         /* score: word 0 is not a head, or has an unnamed bit set */
     SCORE_COUNT = 3,        /* score: fewer than 2+N+P words, or more than 2+N+P+256 */
@@ -83,7 +91,7 @@ enum {
                                or the lowest port above the highest; value: the word */
     SCORE_CIRCLE = 7,       /* score: unguarded calls lead from a procedure back to itself; value: the lowest such
                                procedure */
-    SCORE_BUFFER = 8,       /* a state, map or scratch of another length */
+    SCORE_BUFFER = 8,       /* a state, map, scratch or buffer for a plain score of another length */
     SCORE_STATE = 9,        /* word 0 of the state is wrong, an agent is N or above, or it is aborted with agents */
     SCORE_INPUT = 10,       /* the input map has a token that is T or above */
     SCORE_NEXT = 11,        /* the next state would be refused with SCORE_STATE; proved never to happen */
@@ -91,7 +99,9 @@ enum {
     SCORE_LIST_FORM = 13,   /* a word of it is against its form, or has a token that is T or above; value: the lowest
                                such word */
     SCORE_JOURNAL = 14,     /* the journal is not what the run writes; value: the first such instant */
-    SCORE_ROOM = 15         /* the next instant's words exceed the journal bytes left; value: the instants written */
+    SCORE_ROOM = 15,        /* the next instant's words exceed the journal bytes left; value: the instants written */
+    SCORE_LARGE = 16        /* the plain score of a draft would have more than SCORE_MAX_TOKENS, SCORE_MAX_AGENTS,
+                               SCORE_MAX_PROCEDURES or SCORE_MAX_RULES */
 };
 
 /* The statuses of instants. */
@@ -106,6 +116,7 @@ enum {
 #define SCORE_INSTANT_STACK_BYTES 20480
 #define SCORE_RUN_STACK_BYTES 22528
 #define SCORE_JOURNAL_CHECK_STACK_BYTES 22528
+#define SCORE_TRANSLATE_STACK_BYTES 524288 /* at the desk; it copies agents by calling itself */
 
 /* Checks a score. Reads score[0 .. score_len) and writes nothing.
  *
@@ -198,6 +209,30 @@ SCORE_MUST_USE uint64_t score_run(const uint8_t *score, size_t score_len, uint8_
 SCORE_MUST_USE uint64_t score_journal_check(const uint8_t *score, size_t score_len, const uint8_t *journal,
                                             size_t journal_len, uint8_t *scratch, size_t scratch_len);
 
+/* Translates a draft to a plain score, which plays as the draft is meant to: on every input list over the draft's
+ * tokens its journal from the start state is the draft's.
+ *
+ * Lent and only read:
+ *   draft    which is checked first, as score_check does, a watch being tested like a when.
+ * Lent to be written:
+ *   plain    SCORE_PLAIN_BYTES bytes; afterwards the plain score, from its first byte on, and beyond it what it held.
+ *
+ * The plain score has an agent for each agent other than a watch and set of watch tokens that it stands under, on a
+ * path of bodies, halves and calls from procedure 0, and a procedure for each such pair of a procedure and a set,
+ * by old number and then by set. What lies on no such path is left out. A next under a watch becomes an unless;
+ * where one asks for two tokens or more, a new token stands for them, with a rule from each. The draft's own rules
+ * stay, in their order, and come first; so do its tokens and ports. A score without watches, all of it on such
+ * paths, is written as it is.
+ *
+ * The answer's number is 0 (accepted) or one of 1 to 8 and 16, tried in this order.
+ *
+ *   number     value                    plain
+ *   0          the plain score's bytes  the plain score, then as it was
+ *   1 to 7     as score_check           as it was
+ *   8, 16      0                        as it was
+ */
+SCORE_MUST_USE uint64_t score_translate(const uint8_t *draft, size_t draft_len, uint8_t *plain, size_t plain_len);
+
 /* An answer's top three bits say how the rest is laid out: 0, accepted, with the value in bits 60..0;
  * 1, the number in bits 7..0, the value in bits 31..8, and of an accepted instant, whose number is 0, the status in
  * bits 33..32 and the count in bits 44..34; 2, 3 and 4, the numbers 13, 14 and 15, whose value may be as large as a
@@ -215,7 +250,7 @@ static inline uint32_t score_answer_number(uint64_t answer)
     return layout + 11;
 }
 
-/* The word, procedure, instant or count of instants that the number speaks of; 0 where it speaks of none. */
+/* The word, procedure, instant, count of instants or of bytes that the number speaks of; 0 where it speaks of none. */
 static inline uint64_t score_answer_value(uint64_t answer)
 {
     if (answer >> 61 == 1)

@@ -4,8 +4,10 @@ use mathlib.Core.Path.{_≡_, ap, _∙_}
 use Prim.Native.Nat.{ℕ, _+_, _*_, _-_, _/_, _%_, _^_, _<_, _≤_}
 use native.Mathlib.Decide.{decLt}
 use native.Mathlib.Omega.{arith}
-use borrow.Author.Tests.{le-leb, lt-leb, ne-eqb}
-use Rattle.answer.specs.Answer.{accepted, refused, settled, packed, numberIn, valueIn, statusIn, countIn, Reads, Exact}
+use mathlib.Core.Bool.{false}
+use borrow.Author.Tests.{ne-eqb}
+use Rattle.answer.specs.Answer.{accepted, refused, settled, isWide, packed, numberIn, valueIn, statusIn, countIn, Reads, Exact}
+use Rattle.answer.proofs.Widths.{is-wide, not-wide, late-wide}
 
 -- what is read of layout 1
 record Short (a n v s c : ℕ) : Type 0 where
@@ -51,14 +53,18 @@ long-read l v a n hl hv e en =
 pub exact : Exact
 unfolding packed
 exact (accepted v) f = accepted-read v f
-exact (refused n v) f = go (decLt n 13)
+exact (refused n v) f = go (decLt n 13) (decLt 15 n)
   where
-    go : Dec (n < 13) → Reads (packed (refused n v)) (refused n v)
-    go (yes h) =
-        let e : packed (refused n v) ≡ 2 ^ 61 + v * 2 ^ 8 + n = rw (lt-leb 13 n h) in
-        let r = short-read n v 0 0 (packed (refused n v)) (omega arith) (f .2 h) (omega arith) (omega arith) (omega arith) in
+    small : isWide n ≡ false → v < 2 ^ 24 → Reads (packed (refused n v)) (refused n v)
+    small e h =
+        let q : packed (refused n v) ≡ 2 ^ 61 + v * 2 ^ 8 + n = rw e in
+        let r = short-read n v 0 0 (packed (refused n v)) (f .0) h (omega arith) (omega arith) (omega arith) in
         record { number = r .number; value = r .value; status = r .status; count = r .count }
-    go (no h) = long-read (n - 11) v (packed (refused n v)) n (omega arith) (f .1) (rw (le-leb 13 n (omega arith))) (omega arith)
+
+    go : Dec (n < 13) → Dec (15 < n) → Reads (packed (refused n v)) (refused n v)
+    go (yes h) d = small (not-wide n h) (f .2 h)
+    go (no h) (yes k) = small (late-wide n k) (f .3 k)
+    go (no h) (no k) = long-read (n - 11) v (packed (refused n v)) n (omega arith) (f .1) (rw (is-wide n (omega arith) (omega arith))) (omega arith)
 exact (settled s c) f =
     let r = short-read 0 0 s c (packed (settled s c)) (omega arith) (omega arith) (f .0) (f .1) (omega arith) in
     record { number = r .number; value = r .value; status = r .status; count = r .count }

@@ -7,6 +7,7 @@
 --     reply                      the answer with a number and a value
 --     numberOf, valueOf          the table's number and value; 0 where the table has none
 --     statusOf, countOf          the status and count of an accepted instant; 0 where no instant was accepted
+--     isWide                     the numbers that may have a large value
 --     Fits                       the parts have room
 --     packed                     the number that is returned
 --     numberIn, valueIn, statusIn, countIn
@@ -14,7 +15,7 @@
 --     Reads                      a caller reads this answer off a number
 --     Exact                      the caller reads what was answered
 use mathlib.Core.Path.{_≡_}
-use mathlib.Core.Bool.{cond}
+use mathlib.Core.Bool.{Bool, cond, _&&_}
 use Prim.Native.Nat.{ℕ, zero, suc, _+_, _*_, _-_, _/_, _%_, _^_, _<_, _≤_}
 use lib.Dec.{eqb, leb}
 
@@ -48,14 +49,17 @@ countOf (accepted v) = 0
 countOf (refused n v) = 0
 countOf (settled s c) = c
 
+abbrev pub isWide : ℕ → Bool
+isWide n = leb 13 n && leb n 15
+
 abbrev pub Fits : Reply → Type 0
 Fits (accepted v) = v < 2 ^ 61
-Fits (refused n v) = (n ≤ 15) × (v < 2 ^ 61) × (n < 13 → v < 2 ^ 24) × (1 ≤ n)
+Fits (refused n v) = (n < 2 ^ 8) × (v < 2 ^ 61) × (n < 13 → v < 2 ^ 24) × (15 < n → v < 2 ^ 24) × (1 ≤ n)
 Fits (settled s c) = (s < 4) × (c < 2 ^ 11)
 
 unfoldable pub packed : Reply → ℕ
 packed (accepted v) = v
-packed (refused n v) = cond (leb 13 n) ((n - 11) * 2 ^ 61 + v) (2 ^ 61 + v * 2 ^ 8 + n)
+packed (refused n v) = cond (isWide n) ((n - 11) * 2 ^ 61 + v) (2 ^ 61 + v * 2 ^ 8 + n)
 packed (settled s c) = 2 ^ 61 + s * 2 ^ 32 + c * 2 ^ 34
 
 abbrev pub layout : ℕ → ℕ

@@ -2,12 +2,15 @@
 --     ofVerdict      a verdict on a score
 --     ofReply        the reply of an instant call
 --     ofRunReply     the reply of a run or a journal check
+--     ofTranslation  the reply of a translation
 use Rattle.verdicts.specs.declared.Verdict.{Verdict}
 use Rattle.verdicts.specs.Verdicts.{numberOf, valueOf}
 use Rattle.instant.specs.declared.Reply.{Reply as InstantReply}
 use Rattle.instant.specs.declared.Reply.the-variants as instants
 use Rattle.history.specs.declared.Reply.{Reply as RunReply}
 use Rattle.history.specs.declared.Reply.the-variants as runs
+use Rattle.translation.specs.declared.Reply.{Reply as TranslationReply}
+use Rattle.translation.specs.declared.Reply.the-variants as translations
 use Rattle.answer.specs.Answer.{Reply, reply, accepted, refused, settled}
 
 abbrev pub ofVerdict : Verdict → Reply
@@ -31,3 +34,9 @@ ofRunReply (runs.Word k) = refused 13 k
 ofRunReply (runs.Differs k) = refused 14 k
 ofRunReply (runs.Full n) = refused 15 n
 ofRunReply (runs.Accepted n) = accepted n
+
+abbrev pub ofTranslation : TranslationReply → Reply
+ofTranslation (translations.Draft v) = ofVerdict v
+ofTranslation translations.Lengths = refused 8 0
+ofTranslation translations.Large = refused 16 0
+ofTranslation (translations.Written n) = accepted n

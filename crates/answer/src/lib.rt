@@ -1,7 +1,8 @@
 ghost use mathlib.Core.Path.{_≡_};
+ghost use mathlib.Core.Bool.{false};
 ghost use Prim.Native.Nat.{_<_, _≤_, _^_};
-ghost use Rattle.answer.specs.Answer.{refused, settled, packed, Fits};
-ghost use Rattle.answer.specs.Replies.{ofVerdict, ofReply, ofRunReply};
+ghost use Rattle.answer.specs.Answer.{refused, settled, packed, isWide, Fits};
+ghost use Rattle.answer.specs.Replies.{ofVerdict, ofReply, ofRunReply, ofTranslation};
 use instant::Reply;
 use verdicts::Verdict;
 
@@ -50,6 +51,19 @@ pub fn of_run_reply(reply: history::Reply) -> u64
     }
 }
 
+// The reply of a translation as an answer.
+pub fn of_translation(reply: translation::Reply) -> u64
+    requires { ⌜ Fits (ofTranslation reply) ⌝ }
+    ensures { λ r. ⌜ r ≡ packed (ofTranslation reply) ⌝ }
+{
+    match reply {
+        translation::Reply::Draft(verdict) => of_verdict(verdict),
+        translation::Reply::Lengths => refusal(8, 0),
+        translation::Reply::Large => refusal(16, 0),
+        translation::Reply::Written(bytes) => bytes as u64,
+    }
+}
+
 // An answer whose number may have a large value.
 fn wide(number: usize, value: usize) -> u64
     requires { ⌜ 13 ≤ number ⌝ }
@@ -62,7 +76,8 @@ fn wide(number: usize, value: usize) -> u64
 
 // An answer whose number has a small value.
 fn refusal(number: usize, value: usize) -> u64
-    requires { ⌜ number < 13 ⌝ }
+    requires { ⌜ number < 2 ^ 8 ⌝ }
+    requires { ⌜ isWide number ≡ false ⌝ }
     requires { ⌜ value < 2 ^ 24 ⌝ }
     ensures { λ r. ⌜ r ≡ packed (refused number value) ⌝ }
 {

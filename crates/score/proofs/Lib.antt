@@ -2,3 +2,4 @@ pub mod CheckCall
 pub mod ScoreInstant
 pub mod ScoreRun
 pub mod ScoreJournalCheck
+pub mod ScoreTranslate

@@ -101,10 +101,10 @@ exit-replies score given l =
 
 proper-fits : {r : Replied} → Proper r → Fits (ofReply r)
 proper-fits (turned v n h) = reply-fits (verdicts.numberOf v) (verdicts.valueOf v) (number-few v) h
-proper-fits lengths = (omega arith, omega arith, λ h. omega arith, omega arith)
-proper-fits state = (omega arith, omega arith, λ h. omega arith, omega arith)
-proper-fits input = (omega arith, omega arith, λ h. omega arith, omega arith)
-proper-fits follows = (omega arith, omega arith, λ h. omega arith, omega arith)
+proper-fits lengths = (omega arith, omega arith, λ h. omega arith, λ h. omega arith, omega arith)
+proper-fits state = (omega arith, omega arith, λ h. omega arith, λ h. omega arith, omega arith)
+proper-fits input = (omega arith, omega arith, λ h. omega arith, λ h. omega arith, omega arith)
+proper-fits follows = (omega arith, omega arith, λ h. omega arith, λ h. omega arith, omega arith)
 proper-fits (settles s c p q) = (p, q)
 
 pub fits : (score given : List ℕ) (l : Lent) → Fits (ofReply (exit score given l .reply))

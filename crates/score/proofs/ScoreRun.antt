@@ -31,13 +31,13 @@ one-exit score inputs before after₁ after₂ a b p q = (p .written ∙ sym (q 
 
 pub proper-fits : {score : List ℕ} {n : ℕ} {r : Replied} → n < 2 ^ 61 → Proper score n r → Fits (ofRunReply r)
 proper-fits {score = score} few turned = reply-fits (verdicts.numberOf (verdict score)) (verdicts.valueOf (verdict score)) (number-few (verdict score)) (verdict-small score)
-proper-fits few lengths = (omega arith, omega arith, λ h. omega arith, omega arith)
-proper-fits few no-state = (omega arith, omega arith, λ h. omega arith, omega arith)
-proper-fits few unlawful = (omega arith, omega arith, λ h. omega arith, omega arith)
-proper-fits few bytes = (omega arith, omega arith, λ h. omega arith, omega arith)
-proper-fits few (word k h) = (omega arith, omega arith, λ h. omega arith, omega arith)
-proper-fits few (differs k h) = (omega arith, omega arith, λ h. omega arith, omega arith)
-proper-fits few (full k h) = (omega arith, omega arith, λ h. omega arith, omega arith)
+proper-fits few lengths = (omega arith, omega arith, λ h. omega arith, λ h. omega arith, omega arith)
+proper-fits few no-state = (omega arith, omega arith, λ h. omega arith, λ h. omega arith, omega arith)
+proper-fits few unlawful = (omega arith, omega arith, λ h. omega arith, λ h. omega arith, omega arith)
+proper-fits few bytes = (omega arith, omega arith, λ h. omega arith, λ h. omega arith, omega arith)
+proper-fits few (word k h) = (omega arith, omega arith, λ h. omega arith, λ h. omega arith, omega arith)
+proper-fits few (differs k h) = (omega arith, omega arith, λ h. omega arith, λ h. omega arith, omega arith)
+proper-fits few (full k h) = (omega arith, omega arith, λ h. omega arith, λ h. omega arith, omega arith)
 proper-fits few (accepted k h) = omega arith
 
 pub words-few : (s : List ℕ) → Slice s → length s / 4 < 2 ^ 61

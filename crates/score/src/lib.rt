@@ -4,6 +4,7 @@ ghost use Rattle.score.specs.CheckCall.{CheckCall};
 ghost use Rattle.score.specs.ScoreInstant.{ScoreInstant};
 ghost use Rattle.score.specs.ScoreRun.{ScoreRun};
 ghost use Rattle.score.specs.ScoreJournalCheck.{ScoreJournalCheck};
+ghost use Rattle.score.specs.ScoreTranslate.{ScoreTranslate};
 
 // Checks a score.
 #[no_mangle]
@@ -48,4 +49,12 @@ pub extern "C" fn score_journal_check(score: &[u8], journal: &[u8], scratch: &mu
     ensures { λ r. ⌜ ScoreJournalCheck (now (score .entry)) (now (journal .entry)) (now (scratch .entry)) (now (scratch .exit)) r ⌝ }
 {
     answer::of_run_reply(journalcheck::call(score, journal, scratch))
+}
+
+// Translates a draft to a plain score.
+#[no_mangle]
+pub extern "C" fn score_translate(draft: &[u8], plain: &mut [u8]) -> u64
+    ensures { λ r. ⌜ ScoreTranslate (now (draft .entry)) (now (plain .entry)) (now (plain .exit)) r ⌝ }
+{
+    answer::of_translation(translator::call(draft, plain))
 }

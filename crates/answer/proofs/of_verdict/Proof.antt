@@ -7,6 +7,7 @@ use Rattle.verdicts.specs.declared.Verdict.the-variants.{Accepted}
 use Rattle.verdicts.proofs.Verdicts.{accepted-only, number-few}
 use Rattle.answer.specs.Answer.{refused, reply, packed, Fits}
 use Rattle.answer.specs.Replies.{ofVerdict}
+use Rattle.answer.proofs.Widths.{not-wide}
 use borrow.Author.Needs.{needs}
 use Rattle.answer.proofs.of_verdict.Statement.{statement}
 use Rattle.answer.proofs.of_verdict.Tie as tie
@@ -38,7 +39,7 @@ refusal-requires c κs =
     let n = c .before .before .number-of .ensures in
     let few : numberOf v < 13 = omega (arith, number-few v) in
     let h : valueOf v < 2 ^ 24 = small (numberOf v) (valueOf v) (λ z. c .before .if1 .left (n ∙ z)) few (c .before .before .before .pre) in
-    (omega (arith, n), omega (arith, c .value-of .ensures))
+    (omega (arith, n), (not-wide (c .before .before .number-of .result) (omega (arith, n)), omega (arith, c .value-of .ensures)))
 
 returns-2 : tie.Need-returns-2
 returns-2 c =

@@ -1,8 +1,8 @@
--- `refusal`: a number below 13 is packed with a short value.
+-- `refusal`: a number that is not wide is packed with a short value.
 use mathlib.Core.Path.{_≡_}
-use Prim.Native.Nat.{ℕ, _+_, _*_, _^_, _<_}
-use borrow.Author.Tests.{lt-leb}
-use Rattle.answer.specs.Answer.{refused, packed}
+use mathlib.Core.Bool.{false}
+use Prim.Native.Nat.{ℕ, _+_, _*_, _^_}
+use Rattle.answer.specs.Answer.{refused, packed, isWide}
 use borrow.Author.Needs.{needs}
 use Rattle.answer.proofs.refusal.Statement.{statement}
 use Rattle.answer.proofs.refusal.Tie as tie
@@ -16,12 +16,12 @@ add-result c = search needs
 add-result-2 : tie.Need-add-result-2
 add-result-2 c = search needs
 
-short : (n v : ℕ) → n < 13 → 2 ^ 61 + v * 2 ^ 8 + n ≡ packed (refused n v)
+short : (n v : ℕ) → isWide n ≡ false → 2 ^ 61 + v * 2 ^ 8 + n ≡ packed (refused n v)
 unfolding packed
-short n v lt = rw (lt-leb 13 n lt)
+short n v e = rw e
 
 returns : tie.Need-returns
-returns c = short (c .args .number) (c .args .value) (c .pre .0)
+returns c = short (c .args .number) (c .args .value) (c .pre .1 .0)
 
 pub refusal-spec : {M : Type 1} → statement M
 refusal-spec = tie.close (tie.spec mul-result add-result add-result-2 returns)
