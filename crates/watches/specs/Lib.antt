@@ -1,0 +1,5 @@
+pub mod Translations
+pub mod TranslationExact
+pub mod Returned
+pub mod Sixteen
+pub mod NeverStopped
