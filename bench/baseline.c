@@ -1,4 +1,4 @@
-/* baseline.c: the score check as one would write it by hand.
+/* baseline.c: the score check, and that of drafts, as one would write it by hand.
  *
  * One pass over the words. A body has a lower number than its agent, so the calls that an agent leads to unguarded
  * are known, as a set of procedures, when the agent is reached. The closure runs over the P procedures alone.
@@ -28,8 +28,9 @@ static uint32_t ports_fault(uint32_t word, uint32_t tokens)
     return lowest > highest ? SCORE_REFERENCE : SCORE_ACCEPTED;
 }
 
-/* Sets calls[agent] to the procedures that the agent calls unguarded. */
-static uint32_t agent_fault(uint32_t word, uint32_t agent, uint32_t tokens, uint32_t procedures, uint64_t *calls)
+/* Sets calls[agent] to the procedures that the agent calls unguarded. In a draft, a watch is tested like a when. */
+static inline uint32_t agent_fault(uint32_t word, uint32_t agent, uint32_t tokens, uint32_t procedures,
+                                   uint64_t *calls, int is_draft)
 {
     uint32_t body = word & 0x3FF;
     calls[agent] = 0;
@@ -49,6 +50,9 @@ static uint32_t agent_fault(uint32_t word, uint32_t agent, uint32_t tokens, uint
         calls[agent] = calls[body] | calls[other];
         return SCORE_ACCEPTED;
     }
+    case WATCH:
+        if (!is_draft)
+            return SCORE_FORM; /* fall through */
     case WHEN:
     case UNLESS:
         if (word >> 18 & 0x3FF)
@@ -57,7 +61,7 @@ static uint32_t agent_fault(uint32_t word, uint32_t agent, uint32_t tokens, uint
             return SCORE_TOKEN;
         if (body >= agent)
             return SCORE_REFERENCE;
-        if (word >> 28 == WHEN)
+        if (word >> 28 != UNLESS)
             calls[agent] = calls[body];
         return SCORE_ACCEPTED;
     case NEXT:
@@ -108,7 +112,7 @@ static uint32_t lowest_on_circle(uint64_t *reach, uint32_t procedures)
     return from;
 }
 
-uint64_t baseline_check(const uint8_t *score, size_t score_len)
+static inline uint64_t check(const uint8_t *score, size_t score_len, int is_draft)
 {
     uint64_t calls[AGENTS_MAX], reach[PROCEDURES_MAX];
     uint32_t head, tokens, agents, procedures, fault, i;
@@ -130,7 +134,7 @@ uint64_t baseline_check(const uint8_t *score, size_t score_len)
         return refusal(fault, 1);
     word = 2;
     for (i = 0; i < agents; i++, word++) {
-        fault = agent_fault(word_at(score, word), i, tokens, procedures, calls);
+        fault = agent_fault(word_at(score, word), i, tokens, procedures, calls, is_draft);
         if (fault)
             return refusal(fault, word);
     }
@@ -151,3 +155,7 @@ uint64_t baseline_check(const uint8_t *score, size_t score_len)
     i = lowest_on_circle(reach, procedures);
     return i < procedures ? refusal(SCORE_CIRCLE, i) : SCORE_ACCEPTED;
 }
+
+uint64_t baseline_check(const uint8_t *score, size_t score_len) { return check(score, score_len, 0); }
+
+uint64_t baseline_check_draft(const uint8_t *draft, size_t draft_len) { return check(draft, draft_len, 1); }

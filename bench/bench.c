@@ -15,5 +15,7 @@ int main(int count, char **names)
     equal &= print_engine_table();
     printf("\n");
     equal &= print_growth_table();
+    printf("\n");
+    equal &= print_translate_table();
     return equal ? 0 : 1;
 }

@@ -23,16 +23,7 @@ static uint64_t refusal(uint32_t number)
     return UINT64_C(1) << 61 | number;
 }
 
-static void put_word(uint8_t *bytes, size_t word, uint32_t value)
-{
-    uint8_t *byte = bytes + 4 * word;
-    byte[0] = (uint8_t)value;
-    byte[1] = (uint8_t)(value >> 8);
-    byte[2] = (uint8_t)(value >> 16);
-    byte[3] = (uint8_t)(value >> 24);
-}
-
-static void take_apart(struct score *score, const uint8_t *bytes, size_t len)
+void take_apart(struct score *score, const uint8_t *bytes, size_t len)
 {
     uint32_t head = word_at(bytes, 0), ports = word_at(bytes, 1);
     score->tokens = (head & 0xFF) + 1;
@@ -212,14 +203,6 @@ static size_t read_inputs(struct tokens *input, const uint8_t *bytes, size_t wor
     for (at++; at < words && kind_of(word_at(bytes, at)) == INPUT; at++)
         add_token(input, token_of(word_at(bytes, at)));
     return at;
-}
-
-static size_t count_tokens(const struct tokens *tokens)
-{
-    size_t count = 0, i;
-    for (i = 0; i < TOKENS_MAX / 64; i++)
-        count += (size_t)__builtin_popcountll(tokens->words[i]);
-    return count;
 }
 
 static void write_outputs(uint8_t *bytes, const struct tokens *output)

@@ -50,6 +50,9 @@ struct engine {
                     const struct tokens *told, struct end *end);
 };
 
+/* Of an accepted score, or draft. */
+void take_apart(struct score *score, const uint8_t *bytes, size_t len);
+
 uint64_t call_instant(const struct engine *engine, const uint8_t *score, size_t score_len, uint8_t *state,
                       size_t state_len, const uint8_t *input, size_t input_len, uint8_t *store, size_t store_len,
                       uint8_t *output, size_t output_len, uint8_t *scratch, size_t scratch_len);
@@ -91,6 +94,14 @@ static inline int has_token(const struct tokens *set, uint32_t token)
 static inline void add_token(struct tokens *set, uint32_t token)
 {
     set->words[token / 64] |= UINT64_C(1) << token % 64;
+}
+
+static inline size_t count_tokens(const struct tokens *set)
+{
+    size_t count = 0, i;
+    for (i = 0; i < TOKENS_MAX / 64; i++)
+        count += (size_t)__builtin_popcountll(set->words[i]);
+    return count;
 }
 
 /* Takes out the lowest bit of a word that has one; its number. */

@@ -1,4 +1,4 @@
-/* scores.c: the scores that are timed. */
+/* scores.c: the scores and drafts that are timed. */
 #include "scores.h"
 
 struct sizes {
@@ -34,6 +34,7 @@ static uint32_t when(uint32_t body, uint32_t token) { return 0x70000000 | body |
 static uint32_t next(uint32_t body) { return 0x80000000 | body; }
 static uint32_t unless(uint32_t body, uint32_t token) { return 0x90000000 | body | token << 10; }
 static uint32_t call(uint32_t called) { return 0xA0000000 | called; }
+static uint32_t watch(uint32_t body, uint32_t token) { return 0xF0000000 | body | token << 10; }
 
 static uint32_t rule(uint32_t conclusion, uint32_t premise, uint32_t other)
 {
@@ -254,4 +255,50 @@ void build_deep_sharing(struct score_bytes *score, struct input_tokens *input, u
     push(score, parallel(1, parallels + 2));
     push(score, procedure(parallels + 3));
     input->len = 0;
+}
+
+/* The tokens of watched winches: that all stop, and for each winch those of a winch, with one more that stops it. */
+enum { STOP_ALL = 1, WATCHED_TOKENS = 4 };
+
+static uint32_t watched_token(uint32_t winch, uint32_t which) { return STOP_ALL + 1 + WATCHED_TOKENS * winch + which; }
+
+/* For each winch, "when ready, run" beside "run on, unless at the limit", until it is stopped; all of that at every
+ * instant, until all are stopped.
+ */
+void build_watched_winches(struct score_bytes *draft, uint32_t winches)
+{
+    enum { READY, LIMIT, RUNS, STOP, AGENTS = 6 };
+    struct sizes sizes = {0, 0, 1, 0};
+    uint32_t winch, first = 2;
+    sizes.tokens = watched_token(winches, 0);
+    sizes.agents = 2 + AGENTS * winches + 1;
+    begin(draft, sizes);
+    push_again(draft);
+    for (winch = 0; winch < winches; winch++, first += AGENTS) {
+        push(draft, tell(watched_token(winch, RUNS)));
+        push(draft, when(first, watched_token(winch, READY)));
+        push(draft, unless(first, watched_token(winch, LIMIT)));
+        push(draft, parallel(first + 1, first + 2));
+        push(draft, watch(first + 3, watched_token(winch, STOP)));
+        push(draft, parallel(first - 1, first + 4));
+    }
+    push(draft, watch(first - 1, STOP_ALL));
+    push(draft, procedure(first));
+    for (winch = 0; winch < winches; winch++)
+        push(draft, rule(0, watched_token(winch, RUNS), watched_token(winch, LIMIT)));
+}
+
+/* At each step the agent before stands both under one more watch and not: 2^n copies of a tell. */
+void build_diamond(struct score_bytes *draft, uint32_t watches)
+{
+    struct sizes sizes = {256, 0, 1, 0};
+    uint32_t i;
+    sizes.agents = 2 * watches + 1;
+    begin(draft, sizes);
+    push(draft, tell(1));
+    for (i = 0; i < watches; i++) {
+        push(draft, watch(2 * i, 1 + i));
+        push(draft, parallel(2 * i, 2 * i + 1));
+    }
+    push(draft, procedure(2 * watches));
 }

@@ -1,4 +1,4 @@
-/* scores.h: the scores that are timed. */
+/* scores.h: the scores and drafts that are timed. */
 #ifndef SCORES_H
 #define SCORES_H
 
@@ -24,6 +24,10 @@ struct input_tokens {
 void build_largest(struct score_bytes *score);
 void build_usual(struct score_bytes *score);
 void build_call_chain(struct score_bytes *score);
+
+/* Drafts, of so many winches or watches. */
+void build_watched_winches(struct score_bytes *draft, uint32_t winches);
+void build_diamond(struct score_bytes *draft, uint32_t watches);
 
 /* For the engines, of so many winches, whens, rules or parallels: procedure 0 calls itself again under a next, so that
  * every instant has the same work.

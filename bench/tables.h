@@ -5,5 +5,6 @@
 int print_check_table(const char *sample);
 int print_engine_table(void);
 int print_growth_table(void);
+int print_translate_table(void);
 
 #endif

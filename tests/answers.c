@@ -22,8 +22,9 @@ int main(void)
     int right = 1;
     for (i = 0; i < sizeof values / sizeof *values; i++) {
         right &= reads(values[i], SCORE_ACCEPTED, values[i], 0, 0);
-        for (number = SCORE_LENGTH; number <= SCORE_LIST_LENGTH && values[i] < 1 << 24; number++)
-            right &= reads(layout + values[i] * 256 + number, number, values[i], 0, 0);
+        for (number = SCORE_LENGTH; number <= SCORE_LARGE && values[i] < 1 << 24; number++)
+            if (number < SCORE_LIST_FORM || number > SCORE_ROOM)
+                right &= reads(layout + values[i] * 256 + number, number, values[i], 0, 0);
         for (number = SCORE_LIST_FORM; number <= SCORE_ROOM; number++)
             right &= reads((number - 11) * layout + values[i], number, values[i], 0, 0);
     }

@@ -1,4 +1,4 @@
-/* fuzz.c: makes all four calls on valid, mutated and random bytes, and holds them to what every call must keep.
+/* fuzz.c: makes all five calls on valid, mutated and random bytes, and holds them to what every call must keep.
  *
  * Usage: fuzz SEED ROUNDS [FIRST]
  * Rounds are numbered from FIRST, or from 0; the seed and a round's number settle all that happens in it. Each buffer
@@ -15,15 +15,18 @@
 
 #include "score.h"
 
-enum { SCORE, STATE, INPUT, STORE, OUTPUT, SCRATCH, INPUTS, JOURNAL, BUFFERS };
-enum { CHECK, INSTANT, RUN, JOURNAL_CHECK, FUNCTIONS };
-enum { PAGE = 4096, MOST = 4 * PAGE, FILLER = 0xA5, SECONDS_A_ROUND = 60, ROUNDS_THAT_MEET_ALL = 5000 };
+enum { SCORE, STATE, INPUT, STORE, OUTPUT, SCRATCH, INPUTS, JOURNAL, DRAFT, PLAIN, BUFFERS };
+enum { CHECK, INSTANT, RUN, JOURNAL_CHECK, TRANSLATE, FUNCTIONS };
+enum { PAGE = 4096, MOST = 4 * PAGE, FILLER = 0xA5, SECONDS_A_ROUND = 60, ROUNDS_THAT_MEET_ALL = 5000, NUMBERS = 17 };
 
 #define BIT(number) (1u << (number))
 #define UP_TO(number) (2 * BIT(number) - 1)
 
 /* Makes a fact of a rule word. */
 #define FACT BIT(27)
+
+/* Makes a watch of a when. */
+#define WATCH_OF_WHEN BIT(31)
 
 /* The buffers lent, those of them that may be written, and the numbers that may be answered: 11 never is, since every
  * body is an agent of the score.
@@ -40,6 +43,7 @@ static const struct {
      UP_TO(SCORE_STATE) | BIT(SCORE_LIST_LENGTH) | BIT(SCORE_LIST_FORM) | BIT(SCORE_ROOM)},
     {"score_journal_check", BIT(SCORE) | BIT(JOURNAL) | BIT(SCRATCH), BIT(SCRATCH),
      UP_TO(SCORE_BUFFER) | BIT(SCORE_LIST_LENGTH) | BIT(SCORE_LIST_FORM) | BIT(SCORE_JOURNAL)},
+    {"score_translate", BIT(DRAFT) | BIT(PLAIN), BIT(PLAIN), UP_TO(SCORE_BUFFER) | BIT(SCORE_LARGE)},
 };
 
 /* At most MOST bytes, and behind them space for one instant more. */
@@ -53,7 +57,7 @@ struct lent {
 };
 
 static uint8_t *places[BUFFERS];
-static uint64_t random_state, met[FUNCTIONS][16], facts_met;
+static uint64_t random_state, met[FUNCTIONS][NUMBERS], facts_met, watches_met;
 
 static void require(int holds, const char *broken)
 {
@@ -135,9 +139,10 @@ static uint64_t call_lent(int function, uint8_t **lent, const struct bytes *of)
     case RUN:
         return score_run(lent[SCORE], of[SCORE].len, lent[STATE], of[STATE].len, lent[INPUTS], of[INPUTS].len,
                          lent[JOURNAL], of[JOURNAL].len, lent[SCRATCH], of[SCRATCH].len);
-    default:
+    case JOURNAL_CHECK:
         return score_journal_check(lent[SCORE], of[SCORE].len, lent[JOURNAL], of[JOURNAL].len, lent[SCRATCH],
                                    of[SCRATCH].len);
+    default: return score_translate(lent[DRAFT], of[DRAFT].len, lent[PLAIN], of[PLAIN].len);
     }
 }
 
@@ -186,7 +191,7 @@ static uint64_t judged(int function, struct lent *lent)
     require(call(function, &again, ~ends) == answer, "the same call again answers something else");
     require(!differing(lent, &again), "the same call again leaves other bytes");
     number = score_answer_number(answer);
-    require(number < 16 && functions[function].numbers & BIT(number), "a number that the call may not answer");
+    require(number < NUMBERS && functions[function].numbers & BIT(number), "a number that the call may not answer");
     changed = changed_by(function, number);
     require(!(differing(&before, lent) & ~changed), "a buffer was changed that stays as it was");
     require(!(changed & BIT(SCRATCH)) || is_all(lent->of[SCRATCH].at, SCORE_SCRATCH_BYTES, 0), "scratch is not zero");
@@ -275,12 +280,22 @@ static size_t require_run(const struct lent *before, const struct lent *after, u
     return len;
 }
 
-static uint32_t agent_word(uint32_t agent, uint32_t tokens, uint32_t procedures, uint32_t kinds)
+/* One of the agents close below. */
+static uint32_t close_below(uint32_t agent) { return agent - 1 - below(agent < 4 ? agent : 4); }
+
+/* Where `watches` is not 0, one agent in so many is a watch, and there are parallels of what is close, so that much
+ * stands under several watches.
+ */
+static uint32_t agent_word(uint32_t agent, uint32_t tokens, uint32_t procedures, uint32_t kinds, uint32_t watches)
 {
     uint32_t abort = 1 + (uint32_t)one_in(8), kind = agent ? below(kinds) : 1;
     const uint32_t low[] = {abort, tokens, agent, agent, agent, agent, procedures};
     const uint32_t high[] = {1, 1, agent, tokens, 1, tokens, 1};
     uint32_t word = (4 + kind) << 28 | below(low[kind]);
+    if (agent && watches && one_in(watches))
+        return 0xF0000000 | close_below(agent) | below(tokens) << 10;
+    if (agent && watches && one_in(2))
+        return 0x60000000 | close_below(agent) | close_below(agent) << 10;
     return word | below(high[kind]) << 10;
 }
 
@@ -294,10 +309,10 @@ static uint32_t rule_word(uint32_t tokens, int is_fact)
     return word;
 }
 
-/* A score in its form. Large ones call nothing; in small ones unguarded calls may lead back. Half of them have facts,
- * which are some rules or all.
+/* A score in its form, or a draft. Large ones call nothing; in small ones unguarded calls may lead back. Half of them
+ * have facts, which are some rules or all.
  */
-static void make_score(struct bytes *score)
+static void make_score(struct bytes *score, uint32_t watches)
 {
     int large = one_in(12);
     uint32_t tokens = 1 + below(large ? 256 : 8), agents = 1 + below(large ? 1024 : 20), lowest = below(tokens), i;
@@ -307,7 +322,7 @@ static void make_score(struct bytes *score)
     push(score, 0x10000000 | (tokens - 1) | (agents - 1) << 8 | (procedures - 1) << 18);
     push(score, 0xB0000000 | lowest | (lowest + below(tokens - lowest)) << 8);
     for (i = 0; i < agents; i++)
-        push(score, agent_word(i, tokens, procedures, large ? 6 : 7));
+        push(score, agent_word(i, tokens, procedures, large ? 6 : 7, watches));
     for (i = 0; i < procedures; i++)
         push(score, 0x30000000 | (agents - 1 - below((agents + 1) / 2)));
     for (i = 0; i < rules; i++)
@@ -356,7 +371,8 @@ static void make_list(struct bytes *list, uint32_t tokens)
 
 static void make(struct bytes *of, int from_start)
 {
-    make_score(&of[SCORE]);
+    make_score(&of[SCORE], 0);
+    make_score(&of[DRAFT], 2 + below(8));
     make_state(&of[STATE], &of[SCORE], from_start);
     make_set(&of[INPUT], SCORE_MAP_BYTES, 0, tokens_of(&of[SCORE]));
     make_list(&of[INPUTS], tokens_of(&of[SCORE]));
@@ -364,6 +380,7 @@ static void make(struct bytes *of, int from_start)
     make_random(&of[OUTPUT], SCORE_MAP_BYTES);
     make_random(&of[SCRATCH], SCORE_SCRATCH_BYTES);
     make_random(&of[JOURNAL], below(one_in(4) ? MOST : 200));
+    make_random(&of[PLAIN], SCORE_MAX_BYTES);
 }
 
 /* From a word on, the bytes are what the other has from a word on; the other may be the same. */
@@ -378,7 +395,7 @@ static void splice(struct bytes *bytes, const struct bytes *other)
 static void mutate(struct bytes *bytes, const struct bytes *other)
 {
     size_t len = bytes->len, at = below(len + 1);
-    uint32_t change = one_in(8) ? FACT : below(one_in(2) ? 4 : 1024);
+    uint32_t change = one_in(8) ? FACT : one_in(8) ? WATCH_OF_WHEN : below(one_in(2) ? 4 : 1024);
     switch (below(len < 4 ? 3 : 6)) {
     case 0: make_random(bytes, below(one_in(8) ? MOST : 200)); break;
     case 1: splice(bytes, other); break;
@@ -411,6 +428,75 @@ static void require_check(uint64_t checked, uint64_t answer)
     require(is_of_score ? answer == checked : !score_answer_number(checked), "score_check answers otherwise");
 }
 
+static int has_watch(const struct bytes *draft)
+{
+    size_t word;
+    for (word = 2; word < 2 + agents_of(draft); word++)
+        if (word_at(draft, word) >> 28 == 15)
+            return 1;
+    return 0;
+}
+
+/* What a call wrote as a plain score. */
+static void take_plain(struct bytes *score, const struct bytes *plain, uint64_t answer)
+{
+    score->len = score_answer_value(answer);
+    memcpy(score->at, plain->at, score->len);
+}
+
+/* A translation. Where it is accepted, bytes past the plain score stay as they were, the score check accepts it, and it
+ * has no watch, and so is its own translation.
+ */
+static uint64_t judged_translate(struct lent *lent)
+{
+    static struct lent plain;
+    static struct bytes old;
+    uint64_t answer, len;
+    old = lent->of[PLAIN];
+    answer = judged(TRANSLATE, lent);
+    len = score_answer_value(answer);
+    if (score_answer_number(answer))
+        return answer;
+    require(len <= SCORE_MAX_BYTES, "a plain score is too long");
+    require(!memcmp(old.at + len, lent->of[PLAIN].at + len, SCORE_MAX_BYTES - len), "bytes past the score changed");
+    watches_met += (uint64_t)has_watch(&lent->of[DRAFT]);
+    take_plain(&plain.of[SCORE], &lent->of[PLAIN], answer);
+    require(!score_answer_number(judged(CHECK, &plain)), "the plain score is refused");
+    plain.of[DRAFT] = plain.of[SCORE];
+    make_random(&plain.of[PLAIN], SCORE_MAX_BYTES);
+    require(judged(TRANSLATE, &plain) == answer, "the plain score has another translation's length");
+    require(!memcmp(plain.of[PLAIN].at, plain.of[DRAFT].at, len), "the plain score has another translation");
+    return answer;
+}
+
+/* A score is a draft, and is small enough. What the translation turns down, the score check turns down at the same
+ * word, or for a watch.
+ */
+static void judge_draft(struct lent *lent)
+{
+    uint64_t answer = judged_translate(lent), checked;
+    uint32_t number = score_answer_number(answer);
+    lent->of[SCORE] = lent->of[DRAFT];
+    checked = judged(CHECK, lent);
+    if (!score_answer_number(checked))
+        require(number == SCORE_ACCEPTED || number == SCORE_BUFFER, "a score is refused as a draft");
+    if (number > SCORE_ACCEPTED && number < SCORE_BUFFER)
+        require(checked == answer || score_answer_number(checked) == SCORE_FORM, "a draft's fault is not the score's");
+}
+
+/* A score that was run from its start state and its translation are run alike. */
+static void judge_translated_run(const struct lent *made, const struct lent *after, uint64_t answer)
+{
+    static struct lent lent;
+    lent = *made;
+    lent.of[DRAFT] = made->of[SCORE];
+    make_random(&lent.of[PLAIN], SCORE_MAX_BYTES);
+    take_plain(&lent.of[SCORE], &lent.of[PLAIN], judged_translate(&lent));
+    make_state(&lent.of[STATE], &lent.of[SCORE], 1);
+    require(judged(RUN, &lent) == answer, "the run of a translation answers something else");
+    require(same(&lent.of[JOURNAL], &after->of[JOURNAL]), "the run of a translation has another journal");
+}
+
 /* In half of the rounds score and state are left as they were made, so that there is a run from the start state. */
 static void play_round(void)
 {
@@ -424,6 +510,8 @@ static void play_round(void)
         while (one_in(i == SCORE ? 2 : 6))
             mutate(&made.of[i], &other.of[i]);
     lent = made;
+    judge_draft(&lent);
+    lent = made;
     checked = judged(CHECK, &lent);
     require_check(checked, judged_instant(&lent));
     lent = made;
@@ -431,6 +519,8 @@ static void play_round(void)
     require_check(checked, answer);
     number = score_answer_number(answer);
     if (number == SCORE_ACCEPTED || number == SCORE_ROOM) {
+        if (from_start)
+            judge_translated_run(&made, &lent, answer);
         lent.of[JOURNAL].len = require_run(&made, &lent, answer);
         if (from_start)
             judge_journal(&lent, score_answer_value(answer), &other.of[INPUTS]);
@@ -441,13 +531,13 @@ static void play_round(void)
     require_check(checked, judged(JOURNAL_CHECK, &lent));
 }
 
-/* Prints how often each number and a fact were met. Over many rounds, each that may be answered must be. */
+/* Prints how often each number, a fact and a watch were met. Over many rounds, each that may be answered must be. */
 static void report(uint64_t rounds)
 {
     int function, number;
     for (function = 0; function < FUNCTIONS; function++) {
         printf("%s:", functions[function].name);
-        for (number = 0; number < 16; number++) {
+        for (number = 0; number < NUMBERS; number++) {
             if (!(functions[function].numbers & BIT(number)))
                 continue;
             printf(" %d: %" PRIu64, number, met[function][number]);
@@ -455,8 +545,8 @@ static void report(uint64_t rounds)
         }
         printf("\n");
     }
-    printf("facts: %" PRIu64, facts_met);
-    require(facts_met || rounds < ROUNDS_THAT_MEET_ALL, ", which is never met");
+    printf("facts: %" PRIu64 ", drafts with watches: %" PRIu64, facts_met, watches_met);
+    require((facts_met && watches_met) || rounds < ROUNDS_THAT_MEET_ALL, ", which is never met");
     printf("\n");
 }
 

@@ -1,7 +1,8 @@
 /* stack.c: measures the stack that each call needs and holds it to what the header says.
  *
  * Usage: stack SCORE
- * Each call is measured on the score in the file and on one that is as large as a score can be.
+ * Each call is measured on the score in the file and on one that is as large as a score can be; the translation also on
+ * the longest chains of bodies and calls.
  */
 #include <stdio.h>
 #include <string.h>
@@ -9,7 +10,7 @@
 
 #include "score.h"
 
-#define ROOM 65536
+#define ROOM (8 * 1024 * 1024)
 #define UNTOUCHED 0xA5
 
 static unsigned char stack[ROOM];
@@ -19,6 +20,7 @@ static size_t score_len;
 static uint8_t state[SCORE_STATE_BYTES], input[SCORE_MAP_BYTES], store[SCORE_MAP_BYTES], output[SCORE_MAP_BYTES];
 static uint8_t inputs[2 * SCORE_WORD_BYTES], journal[SCORE_MAX_JOURNAL_INSTANT_BYTES], scratch[SCORE_SCRATCH_BYTES];
 static size_t journal_len;
+static uint8_t plain[SCORE_MAX_BYTES];
 static uint64_t answer;
 
 static uint32_t word_at(const uint8_t *bytes, size_t word)
@@ -49,6 +51,55 @@ static void build_largest(void)
         put_word(score, word++, 0x30000000 | (SCORE_MAX_AGENTS - 1));
     for (i = 0; i < SCORE_MAX_RULES; i++)
         put_word(score, word++, 0x20010100 | i);
+    score_len = SCORE_WORD_BYTES * word;
+}
+
+/* Head and ports of a draft; the word behind them. */
+static uint32_t begin(uint32_t tokens, uint32_t agents, uint32_t procedures)
+{
+    put_word(score, 0, 0x10000000 | (tokens - 1) | (agents - 1) << 8 | (procedures - 1) << 18);
+    put_word(score, 1, 0xB0000000);
+    return 2;
+}
+
+/* Each procedure calls the next one below whens, or below these and a watch of a token of its own at the root: 1,024
+ * agents, each body or root of the one before.
+ */
+static void build_chain(int has_watches)
+{
+    uint32_t word = begin(SCORE_MAX_TOKENS, SCORE_MAX_AGENTS, SCORE_MAX_PROCEDURES), agent, procedure;
+    for (agent = 0; agent < SCORE_MAX_AGENTS; agent++) {
+        procedure = agent / 16;
+        if (agent % 16 == 0 && procedure + 1 < SCORE_MAX_PROCEDURES)
+            put_word(score, word++, 0xA0000000 | (procedure + 1));
+        else if (agent % 16 == 0)
+            put_word(score, word++, 0x40000000);
+        else if (agent % 16 == 15 && has_watches)
+            put_word(score, word++, 0xF0000000 | (agent - 1) | procedure << 10);
+        else
+            put_word(score, word++, 0x70000000 | (agent - 1) | 1 << 10);
+    }
+    for (procedure = 0; procedure < SCORE_MAX_PROCEDURES; procedure++)
+        put_word(score, word++, 0x30000000 | (16 * procedure + 15));
+    score_len = SCORE_WORD_BYTES * word;
+}
+
+/* The one procedure leads past 900 watches to a branch for each of so many tokens, where after a next it is called
+ * again under a watch of that token: on one path there are as many rounds as branches, each past all 900 watches.
+ */
+static void build_rounds(uint32_t branches)
+{
+    enum { WATCHES = 900 };
+    uint32_t word = begin(1 + branches, 2 + 2 * branches + WATCHES, 1), agent = 2, i;
+    put_word(score, word++, 0xA0000000);
+    put_word(score, word++, 0x80000000);
+    for (i = 0; i < branches; i++, agent += 2) {
+        put_word(score, word++, 0xF0000001 | (1 + i) << 10);
+        put_word(score, word++, 0x60000000 | agent | (agent - 1) << 10);
+    }
+    for (i = 0; i < WATCHES; i++, agent++)
+        put_word(score, word++, 0xF0000000 | (agent - 1));
+    put_word(score, word++, 0x30000000 | (agent - 1));
     score_len = SCORE_WORD_BYTES * word;
 }
 
@@ -83,6 +134,11 @@ static void journal_check(void)
     answer = score_journal_check(score, score_len, journal, journal_len, scratch, sizeof scratch);
 }
 
+static void translate(void)
+{
+    answer = score_translate(score, score_len, plain, sizeof plain);
+}
+
 /* The bytes of a stack of its own that a call has written. */
 static size_t used_by(void (*call)(void))
 {
@@ -99,10 +155,20 @@ static size_t used_by(void (*call)(void))
     return ROOM - untouched;
 }
 
-static int held(const char *name, size_t used, size_t stated)
+static int held_at(uint32_t number, const char *name, size_t used, size_t stated)
 {
     printf("%s: %u bytes of stack, %u stated\n", name, (unsigned)used, (unsigned)stated);
-    return score_answer_number(answer) == SCORE_ACCEPTED && used <= stated;
+    return score_answer_number(answer) == number && used <= stated;
+}
+
+static int held(const char *name, size_t used, size_t stated)
+{
+    return held_at(SCORE_ACCEPTED, name, used, stated);
+}
+
+static int translation_held(uint32_t number)
+{
+    return held_at(number, "score_translate", used_by(translate), SCORE_TRANSLATE_STACK_BYTES);
 }
 
 /* The input is token 0, the clash, so that as much happens as can. */
@@ -121,7 +187,22 @@ static int all_held(void)
     for (journal_len = 0; journal_len < sizeof journal && word_at(journal, journal_len / SCORE_WORD_BYTES);)
         journal_len += SCORE_WORD_BYTES;
     right &= held("score_journal_check", used_by(journal_check), SCORE_JOURNAL_CHECK_STACK_BYTES);
-    return right && score_answer_value(answer) == 1;
+    right &= score_answer_value(answer) == 1;
+    return right & translation_held(SCORE_ACCEPTED);
+}
+
+/* Chains without watches and with them; and rounds that fit, and rounds that do not. */
+static int chains_held(void)
+{
+    int right;
+    build_chain(0);
+    right = translation_held(SCORE_ACCEPTED) && score_answer_value(answer) == 4 * (2 + 1024 + 64);
+    build_chain(1);
+    right &= translation_held(SCORE_ACCEPTED) && score_answer_value(answer) == 4 * (2 + 15 * 64 + 64);
+    build_rounds(4);
+    right &= translation_held(SCORE_ACCEPTED);
+    build_rounds(40);
+    return right & translation_held(SCORE_LARGE);
 }
 
 int main(int count, char **arguments)
@@ -135,5 +216,6 @@ int main(int count, char **arguments)
     right = all_held();
     build_largest();
     right &= all_held();
+    right &= chains_held();
     return right ? 0 : 1;
 }

@@ -1,10 +1,12 @@
 //! Answers, and how include/score.h lays them out in 64 bits.
 
 use std::fmt;
+use std::ops::RangeInclusive;
 
 #[derive(Clone, Copy, PartialEq, Eq, Debug)]
 pub enum Answer {
-    /// With the instants that a run wrote or a journal check read; a score check adds 0.
+    /// With the instants that a run wrote or a journal check read, or the bytes that a translation wrote; a score check
+    /// adds 0.
     Accepted(u64),
     /// An accepted instant.
     Instant { status: u32, count: u32 },
@@ -21,7 +23,8 @@ pub const fn refused(number: u32, value: u64) -> Answer {
 const LAYOUT: u32 = 61;
 
 /// The numbers whose value may be as large as a buffer's count of words have layouts of their own.
-const FIRST_WIDE: u32 = 13;
+const WIDE: RangeInclusive<u32> = 13..=15;
+const FIRST_WIDE: u32 = *WIDE.start();
 const FIRST_WIDE_LAYOUT: u32 = 2;
 
 impl Answer {
@@ -36,8 +39,10 @@ impl Answer {
         match self {
             Answer::Accepted(value) => value,
             Answer::Instant { status, count } => 1 << LAYOUT | u64::from(status) << 32 | u64::from(count) << 34,
-            Answer::Refused { number, value } if number < FIRST_WIDE => 1 << LAYOUT | value << 8 | u64::from(number),
-            Answer::Refused { number, value } => u64::from(number - FIRST_WIDE + FIRST_WIDE_LAYOUT) << LAYOUT | value,
+            Answer::Refused { number, value } if WIDE.contains(&number) => {
+                u64::from(number - FIRST_WIDE + FIRST_WIDE_LAYOUT) << LAYOUT | value
+            }
+            Answer::Refused { number, value } => 1 << LAYOUT | value << 8 | u64::from(number),
         }
     }
 

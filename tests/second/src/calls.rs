@@ -4,8 +4,8 @@ use crate::answer::{refused, Answer, ACCEPTED};
 use crate::decoded::{Decoded, Token};
 use crate::engine::{self, End};
 use crate::lent::*;
-use crate::oracle;
 use crate::random::Random;
+use crate::{draft, oracle, translate};
 
 #[derive(Clone)]
 pub struct InstantLent {
@@ -31,6 +31,12 @@ pub struct JournalCheckLent {
     pub score: Vec<u8>,
     pub journal: Vec<u8>,
     pub scratch: Vec<u8>,
+}
+
+#[derive(Clone)]
+pub struct TranslateLent {
+    pub draft: Vec<u8>,
+    pub plain: Vec<u8>,
 }
 
 /// The buffers of a call, with their names in the header.
@@ -66,6 +72,12 @@ impl Lent for RunLent {
 impl Lent for JournalCheckLent {
     fn buffers(&self) -> Vec<(&'static str, &[u8])> {
         vec![("score", &self.score), ("journal", &self.journal), ("scratch", &self.scratch)]
+    }
+}
+
+impl Lent for TranslateLent {
+    fn buffers(&self) -> Vec<(&'static str, &[u8])> {
+        vec![("draft", &self.draft), ("plain", &self.plain)]
     }
 }
 
@@ -226,4 +238,21 @@ fn answer_journal_check(lent: &mut JournalCheckLent, random: &mut Random) -> Res
         state = instant.next;
     }
     Ok(Answer::Accepted(read))
+}
+
+pub fn translate_call(lent: &TranslateLent) -> (Answer, TranslateLent) {
+    let mut after = lent.clone();
+    let answer = answer_translate(&mut after).unwrap_or_else(|refusal| refusal);
+    (answer, after)
+}
+
+fn answer_translate(lent: &mut TranslateLent) -> Result<Answer, Answer> {
+    let checked = draft::check(&lent.draft);
+    if checked != ACCEPTED {
+        return Err(checked);
+    }
+    check_lengths(&[(&lent.plain, PLAIN_BYTES)])?;
+    let plain = translate::translate(&lent.draft).ok_or(refused(16, 0))?;
+    lent.plain[..plain.len()].copy_from_slice(&plain);
+    Ok(Answer::Accepted(plain.len() as u64))
 }

@@ -1,6 +1,6 @@
 //! The order of an instant, step by step as the document tells it: copies in a multiset, any one of them reduced.
 
-use crate::decoded::{Agent, Decoded, Form, Token};
+use crate::decoded::{Agent, Decoded, Form, Rule, Token};
 use crate::random::Random;
 use crate::weight::Weights;
 use std::collections::BTreeSet;
@@ -45,10 +45,10 @@ pub struct Order<'a> {
 
 /// Passes over the rules until nothing is added; facts, which have no premise, are added to any store. A store that
 /// holds the clash holds all tokens.
-fn close(score: &Decoded, store: &mut Store) {
+pub fn close(rules: &[Rule], store: &mut Store) {
     loop {
         let before = store.clone();
-        for rule in &score.rules {
+        for rule in rules {
             if rule.premises.iter().all(|&premise| store[premise]) {
                 store[rule.conclusion] = true;
             }
@@ -65,7 +65,7 @@ fn close(score: &Decoded, store: &mut Store) {
 impl Order<'_> {
     pub fn start<'a>(score: &'a Decoded, agents: &[Agent], inputs: &[Token]) -> Order<'a> {
         let mut store = vec![false; score.tokens];
-        close(score, &mut store);
+        close(&score.rules, &mut store);
         let agents = agents.iter().map(|&agent| Copied::Agent(agent));
         let inputs = inputs.iter().map(|&token| Copied::Input(token));
         Order {
@@ -139,7 +139,7 @@ impl Order<'_> {
 
     fn tell(&mut self, token: Token) {
         self.store[token] = true;
-        close(self.score, &mut self.store);
+        close(&self.score.rules, &mut self.store);
     }
 
     fn abort(&mut self) {
@@ -184,7 +184,7 @@ impl Order<'_> {
 }
 
 /// Heavier orders are followed without copies.
-const HEAVIEST_FOLLOWED: u64 = 5_000;
+pub const HEAVIEST_FOLLOWED: u64 = 5_000;
 
 /// The end of an instant, by a random order.
 pub fn instant(score: &Decoded, agents: &[Agent], inputs: &[Token], random: &mut Random) -> End {

@@ -31,6 +31,19 @@ pub struct Score {
 }
 
 impl Score {
+    /// Takes apart a score, or a draft, that the check accepts.
+    pub fn read(score: &[u8]) -> Score {
+        let words = oracle::words(score);
+        let (agents, rules) = (oracle::agent_places(&words), oracle::rule_places(&words));
+        Score {
+            tokens: (words[0] & 0xFF) + 1,
+            ports: words[1],
+            procedures: words[agents.end..rules.start].to_vec(),
+            agents: words[agents].to_vec(),
+            rules: words[rules].to_vec(),
+        }
+    }
+
     pub fn words(&self) -> Vec<u32> {
         let (agents, procedures) = (self.agents.len() as u32, self.procedures.len() as u32);
         let mut words = vec![words::head(self.tokens, agents, procedures), self.ports];
@@ -182,12 +195,18 @@ fn agent(random: &mut Random, sizes: Sizes, agent: u32) -> u32 {
     }
 }
 
-/// Gives roots to the procedures, in a random order, so that each calls unguarded only those before it.
+/// Gives roots to the procedures, in a random order.
 pub fn procedures(random: &mut Random, agents: &[u32], procedures: u32) -> Vec<u32> {
+    let order = random.order(procedures);
+    procedures_in_order(random, agents, &order)
+}
+
+/// Gives roots to the procedures, so that each calls unguarded only those before it in the order.
+pub fn procedures_in_order(random: &mut Random, agents: &[u32], order: &[u32]) -> Vec<u32> {
     let calls = unguarded_calls(agents);
     let mut before = 0;
-    let mut words = vec![0; procedures as usize];
-    for procedure in random.order(procedures) {
+    let mut words = vec![0; order.len()];
+    for &procedure in order {
         let root = (0..8).map(|_| random.below(agents.len() as u32)).find(|&root| calls[root as usize] & !before == 0);
         words[procedure as usize] = words::procedure(root.unwrap_or(0));
         before |= 1 << procedure;
@@ -195,14 +214,14 @@ pub fn procedures(random: &mut Random, agents: &[u32], procedures: u32) -> Vec<u
     words
 }
 
-/// For each agent the set of procedures that it calls unguarded.
-fn unguarded_calls(agents: &[u32]) -> Vec<u64> {
+/// For each agent, of a score or of a draft, the set of procedures that it calls unguarded.
+pub fn unguarded_calls(agents: &[u32]) -> Vec<u64> {
     let mut calls: Vec<u64> = Vec::new();
     for word in agents {
         let body = |lowest: u32| calls.get((word >> lowest & 0x3FF) as usize).copied();
         calls.push(match word >> 28 {
             6 => body(0).unwrap_or(0) | body(10).unwrap_or(0),
-            7 => body(0).unwrap_or(0),
+            7 | 15 => body(0).unwrap_or(0),
             10 => 1 << (word & 0x3F),
             _ => 0,
         });
@@ -356,7 +375,7 @@ fn limits(head: u32, at: u32, word: u32) -> Vec<(u32, u32, u32)> {
         2 => vec![(0, 8, tokens), (8, 8, tokens), (16, 8, tokens)],
         5 => vec![(0, 8, tokens)],
         6 => vec![(0, 10, agent), (10, 10, agent)],
-        7 | 9 => vec![(0, 10, agent), (10, 8, tokens)],
+        7 | 9 | 15 => vec![(0, 10, agent), (10, 8, tokens)],
         8 => vec![(0, 10, agent)],
         10 => vec![(0, 6, procedures)],
         _ => vec![(0, 1, 1)],

@@ -111,6 +111,12 @@ fn place(sizes: &Sizes, at: usize) -> Place {
     }
 }
 
+/// The places of the agents, or those that there are where the words are too few; none where they have no head.
+pub fn agent_places(words: &[u32]) -> Range<usize> {
+    let agents = words.first().and_then(|&head| sizes(head)).map_or(0, |sizes| sizes.agents);
+    2.min(words.len())..(2 + agents).min(words.len())
+}
+
 /// The places of the rules; none where the words have no head, or are too few.
 pub fn rule_places(words: &[u32]) -> Range<usize> {
     let sizes = words.first().and_then(|&head| sizes(head));

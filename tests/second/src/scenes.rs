@@ -8,14 +8,14 @@ use crate::oracle;
 use crate::random::Random;
 use crate::words;
 
-struct Sizes {
-    tokens: u32,
-    agents: u32,
-    procedures: u32,
-    rules: u32,
+pub(crate) struct Sizes {
+    pub tokens: u32,
+    pub agents: u32,
+    pub procedures: u32,
+    pub rules: u32,
 }
 
-fn small(random: &mut Random) -> Sizes {
+pub(crate) fn small(random: &mut Random) -> Sizes {
     Sizes {
         tokens: random.between(1, 10),
         agents: random.between(1, 24),
@@ -24,7 +24,7 @@ fn small(random: &mut Random) -> Sizes {
     }
 }
 
-fn middling(random: &mut Random) -> Sizes {
+pub(crate) fn middling(random: &mut Random) -> Sizes {
     Sizes {
         tokens: random.between(2, 64),
         agents: random.between(10, 120),
@@ -33,7 +33,7 @@ fn middling(random: &mut Random) -> Sizes {
     }
 }
 
-fn large(random: &mut Random) -> Sizes {
+pub(crate) fn large(random: &mut Random) -> Sizes {
     Sizes {
         tokens: random.between(64, 256),
         agents: random.between(256, 1024),
@@ -45,13 +45,13 @@ fn large(random: &mut Random) -> Sizes {
 /// Aborts, where a score has any, are rare enough that they are often not reached. Where a score has facts, one in so
 /// many rules is one.
 #[derive(Clone, Copy)]
-struct Rates {
-    aborts: bool,
-    clash: u32,
+pub(crate) struct Rates {
+    pub aborts: bool,
+    pub clash: u32,
     facts: Option<u32>,
 }
 
-fn rates(random: &mut Random) -> Rates {
+pub(crate) fn rates(random: &mut Random) -> Rates {
     Rates {
         aborts: random.one_in(3),
         clash: random.pick(&[2, 8, 8, 64]),
@@ -60,7 +60,7 @@ fn rates(random: &mut Random) -> Rates {
 }
 
 /// A token; the clash once in so many times.
-fn token(random: &mut Random, tokens: u32, clash: u32) -> u32 {
+pub(crate) fn token(random: &mut Random, tokens: u32, clash: u32) -> u32 {
     if tokens == 1 || random.one_in(clash) {
         0
     } else {
@@ -68,7 +68,7 @@ fn token(random: &mut Random, tokens: u32, clash: u32) -> u32 {
     }
 }
 
-fn rule(random: &mut Random, tokens: u32, rates: Rates) -> u32 {
+pub(crate) fn rule(random: &mut Random, tokens: u32, rates: Rates) -> u32 {
     if rates.facts.is_some_and(|times| random.one_in(times)) {
         return words::fact(token(random, tokens, 32));
     }
@@ -79,7 +79,7 @@ fn rule(random: &mut Random, tokens: u32, rates: Rates) -> u32 {
 }
 
 /// A lower agent, often a close one.
-fn body(random: &mut Random, agent: u32) -> u32 {
+pub(crate) fn body(random: &mut Random, agent: u32) -> u32 {
     if random.one_in(2) {
         agent - random.between(1, agent.min(6))
     } else {
@@ -95,7 +95,7 @@ fn leaf(random: &mut Random, tokens: u32, rates: Rates) -> u32 {
     }
 }
 
-fn agent(random: &mut Random, sizes: &Sizes, agent: u32, rates: Rates) -> u32 {
+pub(crate) fn agent(random: &mut Random, sizes: &Sizes, agent: u32, rates: Rates) -> u32 {
     if agent == 0 || random.one_in(5) {
         return leaf(random, sizes.tokens, rates);
     }
@@ -163,7 +163,7 @@ pub fn small_score(random: &mut Random) -> Vec<u8> {
     build(random, sizes).bytes()
 }
 
-fn mostly_small(random: &mut Random) -> Sizes {
+pub(crate) fn mostly_small(random: &mut Random) -> Sizes {
     match random.below(40) {
         0 => large(random),
         1..=9 => middling(random),

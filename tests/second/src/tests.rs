@@ -43,6 +43,8 @@ pub struct Met {
     statuses: BTreeMap<u32, u64>,
     statuses_with_facts: BTreeMap<u32, u64>,
     facts_added: u64,
+    /// By name, what else a program must meet.
+    noted: BTreeMap<String, u64>,
 }
 
 /// Whether a score with a fact is accepted, or the word that 4 or 5 names is a fact. Its kind is then right for its place,
@@ -71,6 +73,10 @@ impl Met {
                 *self.statuses_with_facts.entry(status).or_default() += 1;
             }
         }
+    }
+
+    pub fn note(&mut self, what: &str) {
+        *self.noted.entry(what.to_string()).or_default() += 1;
     }
 
     /// A score was compared with itself and a fact more, which it did not have.
@@ -142,6 +148,11 @@ impl Tests {
     pub fn require_facts_added(&mut self) {
         let met = self.met.facts_added;
         self.require("a fact added", Some(met));
+    }
+
+    pub fn require_noted(&mut self, what: &str) {
+        let met = self.met.noted.get(what).copied();
+        self.require(what, met);
     }
 
     pub fn require_statuses(&mut self) {

@@ -53,6 +53,11 @@ pub fn call(procedure: u32) -> u32 {
     0xA000_0000 | procedure
 }
 
+/// An agent of a draft.
+pub fn watch(body: u32, token: u32) -> u32 {
+    0xF000_0000 | body | token << 10
+}
+
 pub fn to_bytes(words: &[u32]) -> Vec<u8> {
     words.iter().flat_map(|word| word.to_le_bytes()).collect()
 }
