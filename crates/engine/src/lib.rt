@@ -54,9 +54,10 @@ fn settle(s: &[u8], head: Sizes, live: &mut Agents, inputs: Tokens) -> Tokens
     requires { ⌜ length (now live) ≡ 1024 ⌝ }
     ensures { λ r. ⌜ Fixed (decode (now (s .entry))) (setOf (now (live .entry))) (setOf inputs) (setOf (now (live .exit))) (setOf r) ⌝ }
 {
-    let mut held = store::closed(s, head, inputs);
+    let mut held = inputs;
+    store::closed(s, head, &mut held);
     while marking::pass(s, head, live, &mut held) {
-        held = store::closed(s, head, held);
+        store::closed(s, head, &mut held);
     }
     held
 }

@@ -4,6 +4,7 @@
 --     set-kept           a flag set keeps the members
 --     set-here           brings its own number
 --     set-cases          and no other
+--     set-again          a flag that is set, set again
 --     set-longer         it is one member more, if it was not in
 --     set-length-le      no more members than flags
 --     set-more           as many flags that have every member have no fewer
@@ -21,7 +22,7 @@ use native.Mathlib.Nat.{not-suc-le-zero}
 use native.Mathlib.Decide.{decLt, ℕ-discrete}
 use native.Mathlib.Omega.{arith}
 use lib.ListN.{length, getD, set, replicate, length-append, length-set, length-map, length-replicate, getD-replicate, List·getD-eq-default}
-use lib.Seq.{getD-set-same, getD-set-other, ext-getD}
+use lib.Seq.{getD-set-same, getD-set-other, set-getD, ext-getD}
 use Rattle.laws.specs.Sets.{Same, below, keep, has}
 use Rattle.laws.proofs.Lists.{map-at}
 use Rattle.laws.proofs.Booleans.{true-is-false}
@@ -89,6 +90,9 @@ module _ (flags : List Bool) (i : ℕ) where
       go : Dec (j ≡ i) → (j ≡ i) ⊎ List·Memᴰ j (setOf flags)
       go (yes e) = inl e
       go (no n) = inr (flag-member flags (sym (getD-set-other flags i j true false n) ∙ member-flag (set flags i true) m))
+
+  pub set-again : getD flags i false ≡ true → set flags i true ≡ flags
+  set-again e = ap (set flags i) (sym e) ∙ set-getD flags i false
 
   pub set-longer : i < length flags → getD flags i false ≡ false → length (setOf (set flags i true)) ≡ suc (length (setOf flags))
   unfolding setOf

@@ -1,4 +1,9 @@
 pub mod Flags
 pub mod Known
+pub mod Pass
+pub mod PassBound
 pub mod Passes
+pub mod Repeats
+pub mod RuleBound
 pub mod Settles
+pub mod WorstOrder

@@ -1,4 +1,4 @@
--- Contracts of inner functions: sets as flags. Flag i says whether i is in the set.
+-- Sets as flags: flag i says whether i is in the set.
 --     setOf          the numbers flagged, rising
 --     flagsOf        n flags for a set
 use mathlib.Core.Bool.{Bool, false}

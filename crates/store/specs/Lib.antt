@@ -1,2 +1,5 @@
 pub mod Flags
+pub mod PassBound
 pub mod Passes
+pub mod RuleBound
+pub mod WorstOrder

@@ -1,11 +1,11 @@
 ghost use mathlib.Core.Path.{_≡_};
+ghost use mathlib.Core.Bool.{false};
 ghost use Prim.Native.Nat.{_+_, _≤_};
 ghost use lib.ListN.{length};
-ghost use Rattle.tcc.specs.Store.{closure};
 ghost use Rattle.format.specs.Decode.{sizes, decode};
 ghost use Rattle.format.specs.Playable.{Playable};
-ghost use Rattle.store.specs.Flags.{setOf, flagsOf};
-ghost use Rattle.store.specs.Passes.{FactsTaken, adds, Passed, Flooded};
+ghost use Rattle.store.specs.PassBound.{ClosedFrom};
+ghost use Rattle.store.specs.Passes.{HasFacts, adds, Passed, Repeated, Flooded};
 use format::Sizes;
 
 // A flag for each token, and for each agent.
@@ -13,44 +13,42 @@ pub type Tokens = [bool; 256];
 
 pub type Agents = [bool; 1024];
 
-// The store that holds given tokens, closed under the rules and the clash.
-pub fn closed(s: &[u8], head: Sizes, tokens: Tokens) -> Tokens
+// Closes a store under the rules and the clash; returns how many passes over the rules there were.
+pub fn closed(s: &[u8], head: Sizes, store: &mut Tokens) -> u16
     requires { ⌜ head ≡ sizes (now s) ⌝ }
     requires { ⌜ Playable (now s) ⌝ }
-    ensures { λ r. ⌜ r ≡ flagsOf 256 (closure (decode (now (s .entry))) (setOf tokens)) ⌝ }
+    requires { ⌜ length (now store) ≡ 256 ⌝ }
+    ensures { λ r. ⌜ ClosedFrom (decode (now (s .entry))) (now (store .entry)) (now (store .exit)) r ⌝ }
 {
     let from = 2 + head.agents + head.procedures;
-    let mut store = tokens;
-    take_facts(s, from, &mut store);
-    while 0 < rule_pass(s, from, &mut store) {}
+    let passes = close_rules(s, from, store);
     if store[0] {
-        flood(head.tokens, &mut store);
+        flood(head.tokens, store);
     }
-    store
+    passes
 }
 
-// Takes up the standing facts among the rules, which start at a given word.
-fn take_facts(s: &[u8], from: usize, store: &mut Tokens)
+// Passes over the rules, which start at a given word, until one adds nothing; returns how many there were. The first takes up
+// the standing facts, so that the others need not look for them.
+fn close_rules(s: &[u8], from: usize, store: &mut Tokens) -> u16
     requires { ⌜ from ≡ 2 + sizes (now s) .agents + sizes (now s) .procedures ⌝ }
     requires { ⌜ length (now store) ≡ 256 ⌝ }
-    ensures { λ _. ⌜ FactsTaken (decode (now (s .entry))) (now (store .entry)) (now (store .exit)) ⌝ }
+    ensures { λ r. ⌜ Repeated (decode (now (s .entry))) (now (store .entry)) (now (store .exit)) r ⌝ }
 {
-    let end = words::word_count(s);
-    let mut k = from;
-    while k < end {
-        let w = words::word_at(s, k);
-        if format::is_fact(w) {
-            let token = format::number(w, 0, 8);
-            store[token] = true;
-        }
-        k += 1;
+    let mut passes: u16 = 0;
+    let mut added = 1;
+    while 0 < added {
+        added = rule_pass(s, from, passes == 0, store);
+        passes += 1;
     }
+    passes
 }
 
-// One pass over the rules, which start at a given word; returns how many tokens it added. A fact is in already.
-fn rule_pass(s: &[u8], from: usize, store: &mut Tokens) -> usize
+// One pass over the rules; returns how many tokens it added. Where facts are not looked for, they are in already.
+fn rule_pass(s: &[u8], from: usize, facts: bool, store: &mut Tokens) -> usize
     requires { ⌜ from ≡ 2 + sizes (now s) .agents + sizes (now s) .procedures ⌝ }
     requires { ⌜ length (now store) ≡ 256 ⌝ }
+    requires { ⌜ (facts ≡ false → HasFacts (decode (now s)) (now store)) ⌝ }
     ensures { λ r. ⌜ Passed (decode (now (s .entry))) (now (store .entry)) (now (store .exit)) r ⌝ }
 {
     let count = words::word_count(s);
@@ -58,7 +56,7 @@ fn rule_pass(s: &[u8], from: usize, store: &mut Tokens) -> usize
     let mut k = from;
     while k < count {
         let w = words::word_at(s, k);
-        if adds_token(store, w) {
+        if adds_token(store, w, facts) {
             let token = format::number(w, 0, 8);
             store[token] = true;
             added += 1;
@@ -68,9 +66,9 @@ fn rule_pass(s: &[u8], from: usize, store: &mut Tokens) -> usize
     added
 }
 
-// Whether a word, read as a rule with two premises, adds its conclusion to a store.
-fn adds_token(store: &Tokens, w: u32) -> bool
-    ensures { λ r. ⌜ r ≡ adds (now (store .entry)) w ⌝ }
+// Whether a word adds its conclusion to a store, read as a rule with two premises or, if facts are looked for, as a fact.
+fn adds_token(store: &Tokens, w: u32, facts: bool) -> bool
+    ensures { λ r. ⌜ r ≡ adds (now (store .entry)) w facts ⌝ }
 {
     let token = format::number(w, 0, 8);
     if store[token] {
@@ -79,9 +77,11 @@ fn adds_token(store: &Tokens, w: u32) -> bool
     let first = format::number(w, 8, 8);
     if store[first] {
         let second = format::number(w, 16, 8);
-        return store[second];
+        if store[second] {
+            return true;
+        }
     }
-    false
+    facts & format::is_fact(w)
 }
 
 // Sets the first flags of a store.

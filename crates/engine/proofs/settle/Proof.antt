@@ -1,13 +1,16 @@
 -- `settle`: passes have added to the marks.
 use mathlib.Core.Path.{_≡_, sym, ap, subst⁻¹, _∙_}
-use mathlib.Core.Bool.{cond}
+use mathlib.Core.Bool.{Bool, cond}
+use mathlib.Core.List.{List}
 use Prim.Native.Nat.{ℕ, _+_, _-_, _≤_}
 use native.Mathlib.Omega.{arith}
 use lib.ListN.{length}
+use Rattle.tcc.specs.Score.{Score}
 use Rattle.tcc.specs.Store.{closure}
 use Rattle.tcc.specs.FixedPoint.{Marked, Sound}
 use Rattle.format.specs.Decode.{decode}
 use Rattle.store.specs.Flags.{setOf, flagsOf}
+use Rattle.store.specs.PassBound.{ClosedFrom}
 use Rattle.store.proofs.Flags.{member-within, set-length-le, set-more, flagsOf-length}
 use Rattle.engine.specs.Marks.{Shut}
 use Rattle.engine.proofs.Closing.{closed-shut, closed-above}
@@ -22,70 +25,73 @@ Inv-loop s head live₀ held₀ live held = (length live ≡ 1024) × (length he
 abbrev μ-loop : tie.MeasureT-loop
 μ-loop s head live₀ held₀ live held = 1280 - (length (setOf live) + length (setOf held))
 
+closed-long : {sc : Score} {tokens store : List Bool} {passes : ℕ} → ClosedFrom sc tokens store passes → length store ≡ 256
+closed-long {sc} {tokens} h = ap length (h .closes) ∙ flagsOf-length 256 (closure sc (setOf tokens))
+
 closed-requires : tie.Need-closed-requires Inv-loop μ-loop
-closed-requires c κs = let b = c .before in (b .pre .0, b .pre .1 .0)
+closed-requires c κs = let b = c .before .before in (b .pre .0, (b .pre .1 .0, search needs))
 
 loop-holds : tie.Need-loop-holds Inv-loop μ-loop
 loop-holds c =
-    let b = c .before .before in
-    let sc = decode (b .args .s .now) in (
+    let b = c .before .before .before in
+    let sc = decode (b .args .s .now) in
+    let held = c .closed .last .1 .1 .0 in (
       b .pre .1 .1,
-      search needs,
-      settling-none sc (setOf (b .args .live .now)) (setOf (c .closed .result)) (subst⁻¹ (λ l. Shut sc (setOf l)) (c .closed .ensures) (closed-shut sc (b .pre .1 .0 .lawful) (setOf (b .args .inputs)))),
+      closed-long (c .closed .ensures),
+      settling-none sc (setOf (b .args .live .now)) (setOf held) (subst⁻¹ (λ l. Shut sc (setOf l)) (c .closed .ensures .closes) (closed-shut sc (b .pre .1 .0 .lawful) (setOf (b .args .inputs)))),
     )
 
 pass-requires : tie.Need-pass-requires Inv-loop μ-loop
 pass-requires c κs =
-    let b = c .before .before .before .before .before in
+    let b = c .before .before .before .before .before .before in
     let l = c .before .before .loop in
     (b .pre .0, (b .pre .1 .0, (l .inv .0, l .inv .1)))
 
 closed-requires-2 : tie.Need-closed-requires-2 Inv-loop μ-loop
-closed-requires-2 c κs = let b = c .before .before .before .before .before .before .before in (b .pre .0, b .pre .1 .0)
+closed-requires-2 c κs = let b = c .before .before .before .before .before .before .before .before .before in (b .pre .0, (b .pre .1 .0, c .before .before .pass .ensures .long-held))
 
 -- closing the store takes no token away
-no-fewer : (c : tie.After-closed2 Inv-loop μ-loop) → length (setOf (c .before .before .pass .last .1 .1 .1 .0)) ≤ length (setOf (c .closed2 .result))
+no-fewer : (c : tie.After-closed2 Inv-loop μ-loop) → length (setOf (c .before .before .before .pass .last .1 .1 .1 .0)) ≤ length (setOf (c .closed2 .last .1 .1 .0))
 no-fewer c =
-    let b = c .before .before .before .before .before .before .before .before in
+    let b = c .before .before .before .before .before .before .before .before .before .before in
     let sc = decode (b .args .s .now) in
-    let h = c .before .before .pass .ensures in
-    let held = c .before .before .pass .last .1 .1 .1 .0 in
-    subst⁻¹ (λ l. length (setOf held) ≤ length (setOf l)) (c .closed2 .ensures)
+    let h = c .before .before .before .pass .ensures in
+    let held = c .before .before .before .pass .last .1 .1 .1 .0 in
+    subst⁻¹ (λ l. length (setOf held) ≤ length (setOf l)) (c .closed2 .ensures .closes)
     (set-more held (flagsOf 256 (closure sc (setOf held))) (flagsOf-length 256 (closure sc (setOf held)) ∙ sym (h .long-held))
     (λ t m. closed-above sc (b .pre .1 .0 .lawful) (setOf held) t (omega (arith, member-within held m, h .long-held)) m))
 
 loop-less : tie.Need-loop-less Inv-loop μ-loop
 loop-less c =
-    let h = c .before .before .pass .ensures in
-    let live = c .before .before .pass .last .1 .1 .0 in
-    let held = c .closed2 .result in
-    let long : length held ≡ 256 = search needs in
-    omega (arith, h .larger, ap {B = ℕ} (λ x. cond x 1 0) (c .before .if1 .taken), no-fewer c, set-length-le live, h .long-live, set-length-le held)
+    let h = c .before .before .before .pass .ensures in
+    let live = c .before .before .before .pass .last .1 .1 .0 in
+    let held = c .closed2 .last .1 .1 .0 in
+    omega (arith, h .larger, ap {B = ℕ} (λ x. cond x 1 0) (c .before .before .if1 .taken), no-fewer c, set-length-le live, h .long-live, set-length-le held, closed-long (c .closed2 .ensures))
 
 loop-again : tie.Need-loop-again Inv-loop μ-loop
 loop-again c =
-    let b = c .before .before .before .before .before .before .before .before in
-    let l = c .before .before .before .before .before .loop in
-    let p = c .before .before .pass in (
+    let b = c .before .before .before .before .before .before .before .before .before .before in
+    let l = c .before .before .before .before .before .before .loop in
+    let p = c .before .before .before .pass in (
       p .ensures .long-live,
-      search needs,
-      settling-more (decode (b .args .s .now)) (setOf (b .args .live .now)) (setOf (c .before .before .before .before .before .before .closed .result)) (l .live) (l .held) (p .last .1 .1 .0) (p .last .1 .1 .1 .0) (p .result)
-          (l .inv .2) (p .ensures) (b .pre .1 .0 .lawful) (c .closed2 .result) (c .closed2 .ensures),
+      closed-long (c .closed2 .ensures),
+      settling-more (decode (b .args .s .now)) (setOf (b .args .live .now)) (setOf (c .before .before .before .before .before .before .before .closed .last .1 .1 .0)) (l .live) (l .held) (p .last .1 .1 .0) (p .last .1 .1 .1 .0) (p .result)
+          (l .inv .2) (p .ensures) (b .pre .1 .0 .lawful) (c .closed2 .last .1 .1 .0) (c .closed2 .ensures .closes),
     )
 
 returns : tie.Need-returns Inv-loop μ-loop
 returns c =
-    let b = c .before .before .before .before .before .before .before in
-    let first = c .before .before .before .before .before .closed in
+    let b = c .before .before .before .before .before .before .before .before in
+    let first = c .before .before .before .before .before in
     let l = c .before .before .before .before .loop in
     let p = c .before .pass in
     let sc = decode (b .args .s .now) in
     let lives = setOf (b .args .live .now) in
     let inputs = b .args .inputs in
     let long : length inputs ≡ 256 = search needs in
-    settled sc lives (setOf (first .result)) (l .live) (l .held) (p .last .1 .1 .0) (p .last .1 .1 .1 .0) (p .result) (l .inv .2) (p .ensures) (c .if1 .left) (setOf inputs)
-    (subst⁻¹ (λ h. Sound sc lives (setOf inputs) (Marked lives) (Marked (setOf h))) (first .ensures) (starts-sound sc (b .pre .1 .0 .lawful) lives (setOf inputs)))
-    (λ t m. subst⁻¹ (λ h. Marked (setOf h) t) (first .ensures) (closed-above sc (b .pre .1 .0 .lawful) (setOf inputs) t (omega (arith, member-within inputs m)) m))
+    settled sc lives (setOf (first .closed .last .1 .1 .0)) (l .live) (l .held) (p .last .1 .1 .0) (p .last .1 .1 .1 .0) (p .result) (l .inv .2) (p .ensures) (c .if1 .left) (setOf inputs)
+    (subst⁻¹ (λ h. Sound sc lives (setOf inputs) (Marked lives) (Marked (setOf h))) (first .closed .ensures .closes) (starts-sound sc (b .pre .1 .0 .lawful) lives (setOf inputs)))
+    (λ t m. subst⁻¹ (λ h. Marked (setOf h) t) (first .closed .ensures .closes) (closed-above sc (b .pre .1 .0 .lawful) (setOf inputs) t (omega (arith, member-within inputs m)) m))
 
 pub settle-spec : {M : Type 1} → statement M
 settle-spec =

@@ -1,13 +1,15 @@
 -- `adds_token`: the conclusion, and the premises only where it is not in.
-use mathlib.Core.Path.{_≡_, refl, ap, _∙_}
+use mathlib.Core.Path.{_≡_, ap, _∙_}
 use mathlib.Core.Bool.{Bool, true, false, _&&_}
 use mathlib.Core.List.{List}
+use mathlib.Core.Logic.{⊎-elim}
 use Prim.Native.Nat.{ℕ, _<_}
 use borrow.Author.Needs.{needs}
 use native.Mathlib.Omega.{arith}
 use lib.ListN.{getD}
 use Rattle.words.specs.Word.{field}
 use Rattle.words.proofs.Field.{field-below}
+use Rattle.format.specs.Format.{isFact}
 use Rattle.store.specs.Passes.{adds}
 use Rattle.store.proofs.adds_token.Statement.{statement}
 use Rattle.store.proofs.adds_token.Tie as tie
@@ -21,23 +23,19 @@ flag : (s : List Bool) {n m : ℕ} {b : Bool} → n ≡ m → getD s n false ≡
 flag s e f = rw e at f
 
 -- a rule by the flags of its conclusion and its premises
-module _ (s : List Bool) (w : ℕ) where
-  already-in : getD s (field w 0 8) false ≡ true → false ≡ adds s w
-  already-in e = rw e (go (getD s (field w 8 8) false && getD s (field w 16 8) false))
-    where
-      go : (b : Bool) → false ≡ (b && false)
-      go true = refl
-      go false = refl
+module _ (s : List Bool) (w : ℕ) (facts : Bool) where
+  already-in : getD s (field w 0 8) false ≡ true → false ≡ adds s w facts
+  already-in e = rw e
 
-  by-second : getD s (field w 0 8) false ≡ false → getD s (field w 8 8) false ≡ true → getD s (field w 16 8) false ≡ adds s w
-  by-second out e = rw (out, e) (go (getD s (field w 16 8) false))
-    where
-      go : (b : Bool) → b ≡ (b && true)
-      go true = refl
-      go false = refl
+  module _ (out : getD s (field w 0 8) false ≡ false) where
+    both-in : getD s (field w 8 8) false ≡ true → getD s (field w 16 8) false ≡ true → true ≡ adds s w facts
+    both-in e f = rw (out, e, f)
 
-  first-out : getD s (field w 8 8) false ≡ false → false ≡ adds s w
-  first-out e = rw e
+    first-out : getD s (field w 8 8) false ≡ false → (facts && isFact w) ≡ adds s w facts
+    first-out e = rw (out, e)
+
+    second-out : getD s (field w 8 8) false ≡ true → getD s (field w 16 8) false ≡ false → (facts && isFact w) ≡ adds s w facts
+    second-out e f = rw (out, e, f)
 
 number-requires : tie.Need-number-requires
 number-requires c κs = search needs
@@ -47,8 +45,8 @@ element-copy-out-if1 c = below-256 _ _ (c .number .ensures)
 
 returns : tie.Need-returns
 returns c =
-    let s = c .before .before .before .args .store .now in
-    already-in s (c .before .before .before .args .w) (flag s (c .before .before .number .ensures) (c .if1 .taken))
+    let b = c .before .before .before in
+    already-in (b .args .store .now) (b .args .w) (b .args .facts) (flag (b .args .store .now) (c .before .before .number .ensures) (c .if1 .taken))
 
 number-requires-2 : tie.Need-number-requires-2
 number-requires-2 c κs = search needs
@@ -59,19 +57,33 @@ element-copy-out-if2 c = below-256 _ _ (c .number2 .ensures)
 number-requires-3 : tie.Need-number-requires-3
 number-requires-3 c κs = search needs
 
-element-copy-out-result : tie.Need-element-copy-out-result
-element-copy-out-result c = below-256 _ _ (c .number3 .ensures)
+element-copy-out-if3 : tie.Need-element-copy-out-if3
+element-copy-out-if3 c = below-256 _ _ (c .number3 .ensures)
 
 returns-2 : tie.Need-returns-2
 returns-2 c =
-    let s = c .before .before .before .before .before .before .before .before .args .store .now in
-    ap (λ n. getD s n false) (c .before .number3 .ensures)
-    ∙ by-second s (c .before .before .before .before .before .before .before .before .args .w) (flag s (c .before .before .before .before .before .before .before .number .ensures) (c .before .before .before .before .before .if1 .left)) (flag s (c .before .before .before .before .number2 .ensures) (c .before .before .if2 .taken))
+    let b = c .before .before .before .before .before .before .before .before .before in
+    let s = b .args .store .now in
+    let second : c .before .before .number3 .result ≡ field (b .args .w) 16 8 = c .before .before .number3 .ensures in
+    both-in s (b .args .w) (b .args .facts)
+    (flag s (c .before .before .before .before .before .before .before .before .number .ensures) (c .before .before .before .before .before .before .if1 .left))
+    (flag s (c .before .before .before .before .before .number2 .ensures) (c .before .before .before .if2 .taken))
+    (flag s second (c .if3 .taken))
+
+is-fact-requires : tie.Need-is-fact-requires
+is-fact-requires c κs = search needs
 
 returns-3 : tie.Need-returns-3
 returns-3 c =
-    let s = c .before .before .before .before .before .before .args .store .now in
-    first-out s (c .before .before .before .before .before .before .args .w) (flag s (c .before .before .number2 .ensures) (c .if2 .left))
+    let b = c .before .before .before .before .before .before .before in
+    let s = b .args .store .now in
+    let out = flag s (c .before .before .before .before .before .before .number .ensures) (c .before .before .before .before .if1 .left) in
+    let first = c .before .before .before .number2 .ensures in
+    ap (λ x. b .args .facts && x) (c .is-fact .ensures)
+    ∙ ⊎-elim
+    (λ w. second-out s (b .args .w) (b .args .facts) out (flag s first (w .0 .taken)) (flag s (w .1 .ensures) (w .3 .left)))
+    (λ w. first-out s (b .args .w) (b .args .facts) out (flag s first (w .left)))
+    (c .before .if2 .came)
 
 pub adds-token-spec : {M : Type 1} → statement M
 adds-token-spec =
@@ -83,6 +95,7 @@ adds-token-spec =
     number-requires-2
     element-copy-out-if2
     number-requires-3
-    element-copy-out-result
+    element-copy-out-if3
     returns-2
+    is-fact-requires
     returns-3)

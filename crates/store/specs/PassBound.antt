@@ -1,0 +1,54 @@
+-- "Let it count its passes .. in 16 bits. Each pass but the last is proved to add a token .., so the count never passes 257."
+-- A store is kept as flags: flag t says whether token t is in.
+--     applied        a rule in its turn: its conclusion comes in if all its premises are in
+--     pass           one pass: each rule in its turn, in the score's order
+--     after          the store after n passes
+--     Adds           a token that was out comes in
+--     PassCount      how many passes there are: one that adds nothing is the last, one that adds a token is followed by another
+--     ClosedFrom     what closing gives: the closure of the given tokens, and how many passes there are from them
+--     OneClosed      both are settled
+--     PassBound      each pass but the last adds a token, so that there are at most 257, whatever the rules and the tokens
+use mathlib.Core.Path.{_≡_}
+use mathlib.Core.Bool.{Bool, true, false, cond}
+use mathlib.Core.List.{List, [], _∷_}
+use Prim.Native.Nat.{ℕ, zero, suc, _<_, _≤_}
+use lib.ListN.{length, getD, set}
+use Rattle.laws.specs.Sets.{every}
+use Rattle.tcc.specs.Closure.{Rule}
+use Rattle.tcc.specs.Score.{Score}
+use Rattle.tcc.specs.Store.{closure}
+use Rattle.store.specs.Flags.{setOf, flagsOf}
+
+abbrev pub applied : Rule ℕ → List Bool → List Bool
+applied r store = cond (every (λ p. getD store p false) (r .premises)) (set store (r .conclusion) true) store
+
+abbrev pub pass : List (Rule ℕ) → List Bool → List Bool
+pass [] store = store
+pass (r ∷ rules) store = pass rules (applied r store)
+
+abbrev pub after : List (Rule ℕ) → ℕ → List Bool → List Bool
+after rules zero store = store
+after rules (suc n) store = after rules n (pass rules store)
+
+pub record Adds (before later : List Bool) : Type 0 where
+  pub token : ℕ
+  pub out : getD before token false ≡ false
+  pub comes-in : getD later token false ≡ true
+
+pub data PassCount (rules : List (Rule ℕ)) : List Bool → ℕ → Type 0 where
+  last : {store : List Bool} → pass rules store ≡ store → PassCount rules store 1
+  more : {store : List Bool} {n : ℕ} → Adds store (pass rules store) → PassCount rules (pass rules store) n → PassCount rules store (suc n)
+
+pub record ClosedFrom (sc : Score) (tokens store : List Bool) (passes : ℕ) : Type 0 where
+  pub closes : store ≡ flagsOf 256 (closure sc (setOf tokens))
+  pub counts : PassCount (sc .rules) tokens passes
+
+abbrev pub OneClosed : Type 0
+OneClosed = (sc : Score) (tokens store₁ store₂ : List Bool) (n₁ n₂ : ℕ) → ClosedFrom sc tokens store₁ n₁ → ClosedFrom sc tokens store₂ n₂ → (store₁ ≡ store₂) × (n₁ ≡ n₂)
+
+pub record Bounded (rules : List (Rule ℕ)) (tokens : List Bool) (passes : ℕ) : Type 0 where
+  pub adding : (k : ℕ) → suc k < passes → Adds (after rules k tokens) (after rules (suc k) tokens)
+  pub bound : passes ≤ 257
+
+abbrev pub PassBound : Type 0
+PassBound = (sc : Score) (tokens store : List Bool) (passes : ℕ) → length tokens ≡ 256 → ClosedFrom sc tokens store passes → Bounded (sc .rules) tokens passes
