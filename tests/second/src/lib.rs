@@ -2,6 +2,7 @@
 
 pub mod answer;
 pub mod calls;
+pub mod chains;
 pub mod circles;
 pub mod decoded;
 pub mod draft;
@@ -12,6 +13,7 @@ pub mod guarded;
 pub mod lawful;
 pub mod lent;
 pub mod oracle;
+pub mod passes;
 pub mod random;
 pub mod sample;
 pub mod scenes;

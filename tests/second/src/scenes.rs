@@ -201,7 +201,7 @@ pub fn large_score(random: &mut Random) -> Vec<u8> {
 }
 
 /// A score of these agents, with procedure 0 at the last, all tokens at the ports.
-fn plain(tokens: u32, agents: Vec<u32>, rules: Vec<u32>) -> Vec<u8> {
+pub(crate) fn plain(tokens: u32, agents: Vec<u32>, rules: Vec<u32>) -> Vec<u8> {
     let root = agents.len() as u32 - 1;
     let score =
         Score { tokens, ports: words::ports(0, tokens - 1), agents, procedures: vec![words::procedure(root)], rules };
@@ -242,7 +242,7 @@ pub fn rule_chain(random: &mut Random) -> Vec<u8> {
 }
 
 /// A when and an unless on one token, with a skip for their body; the last agent is both.
-fn asking(token: u32) -> Vec<u32> {
+pub(crate) fn asking(token: u32) -> Vec<u32> {
     vec![words::skip(), words::when(0, token), words::unless(0, token), words::parallel(1, 2)]
 }
 

@@ -3,10 +3,12 @@
 use crate::library;
 use second::answer::{refused, Answer};
 use second::calls::{instant_call, InstantLent};
+use second::chains::{self, worst_order, Chain, Start, CALL};
 use second::decoded::Decoded;
 use second::generate::Score;
 use second::guarded::GUARDS;
 use second::lent::*;
+use second::oracle;
 use second::random::Random;
 use second::sample::{replaced, S};
 use second::tests::{case, ensure, same_call, Case, Met, Outcome};
@@ -14,10 +16,21 @@ use second::weight::Weights;
 use second::words::*;
 
 pub fn all() -> Vec<Case> {
-    [sample(), refusals(), small(), readings(), facts(), facts_and_agents(), facts_and_aborts(), sharing()]
-        .into_iter()
-        .flatten()
-        .collect()
+    [
+        sample(),
+        refusals(),
+        small(),
+        readings(),
+        facts(),
+        facts_and_agents(),
+        facts_and_aborts(),
+        sharing(),
+        chains::cases(falls),
+        other_chains(),
+    ]
+    .into_iter()
+    .flatten()
+    .collect()
 }
 
 /// What one instant must bring about.
@@ -384,6 +397,40 @@ fn sharing() -> Vec<Case> {
         case("every agent awake at once", |met| {
             let all: Vec<usize> = (0..1024).collect();
             in_turn(met, &ladder(), &all, &[(&[], quiet(1024, &[1], &[]))])
+        }),
+    ]
+}
+
+/// Two instants of a chain from the start state, which both end with its store.
+fn falls(met: &mut Met, chain: Chain) -> Outcome {
+    let (score, inputs) = (oracle::words(&chain.score()), chain.inputs());
+    let instant = |count| (&inputs[..], quiet(count, &chain.store(), &[CALL]));
+    let root = Decoded::new(&chain.score()).roots[0];
+    in_turn(met, &score, &[root], &[instant(chain.reduced()), instant(chain.reduced() + 1)])
+}
+
+fn other_chains() -> Vec<Case> {
+    vec![
+        case("256 tokens in the worst order, started nowhere, in the middle and at the end", |met| {
+            let chain = Chain { tokens: 256, lowest: 1, start: Start::Input };
+            let middle: Vec<usize> = (1..=128).collect();
+            let instants: [(&[usize], Wanted); 3] = [
+                (&[], quiet(2, &[], &[0, CALL])),
+                (&[128], quiet(6, &middle, &[CALL])),
+                (&[1], quiet(6, &[1], &[CALL])),
+            ];
+            in_turn(met, &oracle::words(&chain.score()), &[6], &instants)
+        }),
+        case("256 tokens in the worst order, after 63 calls", |met| {
+            let score = Score {
+                tokens: 256,
+                ports: ports(0, 255),
+                agents: (1..64).map(call).chain([tell(255)]).collect(),
+                procedures: (0..64).map(procedure).collect(),
+                rules: worst_order(0, 255),
+            };
+            let all: Vec<usize> = (0..256).collect();
+            in_turn(met, &score.words(), &[0], &[(&[], quiet(64, &all, &[]))])
         }),
     ]
 }

@@ -27,6 +27,7 @@ const CATEGORIES: &[Category<Trial>] = &[
     ("damaged scores", 15_000, trials::damaged_scores),
     ("scores of the score check", 12_000, trials::checked_scores),
     ("several faults", 10_000, trials::several_faults),
+    ("long chains of rules", 1_500, trials::long_chains),
 ];
 
 fn test(tests: &mut Tests) {

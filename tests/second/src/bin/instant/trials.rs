@@ -10,7 +10,7 @@ use second::lent::*;
 use second::random::Random;
 use second::sequence::Sequence;
 use second::tests::{ensure, same_call, shown, Met, Outcome};
-use second::{every_order, lawful, scenes, words};
+use second::{chains, every_order, lawful, scenes, words};
 use std::collections::HashSet;
 
 /// Holds the library to the second engine, between three kinds of guards.
@@ -341,4 +341,14 @@ pub fn input_on_score(met: &mut Met, random: &mut Random, _: u64) -> Outcome {
     let got = overlap::instant_on_score(&lent, input_at);
     met.count("instant", &lent.score, got.0);
     same_call(&expected, &got).map_err(|difference| format!("{difference}{}", shown(&lent)))
+}
+
+/// Long chains of rules, most of which nothing but their highest token starts.
+pub fn long_chains(met: &mut Met, random: &mut Random, _: u64) -> Outcome {
+    let score = chains::long_chain(random);
+    let mut lent = lawful::instant(random, score);
+    if !random.one_in(4) {
+        lent.input = map_bytes(&chains::highest_or_none(random, Decoded::new(&lent.score).tokens));
+    }
+    judge_at_any_offset(met, &lent, random)
 }

@@ -4,6 +4,8 @@ use crate::judge::{self, known};
 use crate::library;
 use second::answer::{refused, same, Answer};
 use second::calls::{JournalCheckLent, RunLent};
+use second::chains::{self, Chain, CALL};
+use second::decoded::Decoded;
 use second::guarded::GUARDS;
 use second::lent::*;
 use second::random::Random;
@@ -12,7 +14,7 @@ use second::tests::{case, ensure, Case, Met, Outcome};
 use second::words::*;
 
 pub fn all() -> Vec<Case> {
-    [sample(), lists(), aborted(), journals(), facts(), journals_with_facts(), large_values()]
+    [sample(), lists(), aborted(), journals(), facts(), journals_with_facts(), large_values(), chains::cases(falls)]
         .into_iter()
         .flatten()
         .collect()
@@ -339,4 +341,27 @@ fn large_values() -> Vec<Case> {
             same(answer, refused(13, VERY_MANY as u64 - 1))
         }),
     ]
+}
+
+/// How many instants a chain is run for.
+const FALLS: usize = 2;
+
+/// The words of an instant of a chain, all of whose tokens are at the ports.
+fn fall(chain: Chain) -> Vec<u32> {
+    let status = u32::from(chain.lowest == 0);
+    second::oracle::words(&instant_bytes(status, &chain.inputs(), &chain.store()))
+}
+
+/// A run of a chain from the start state; its journal, which is accepted; and one whose last instant lacks the token
+/// that comes last, which is not.
+fn falls(met: &mut Met, chain: Chain) -> Outcome {
+    let score = second::oracle::words(&chain.score());
+    let list = second::oracle::words(&list_bytes(&vec![chain.inputs(); FALLS]));
+    let journal = fall(chain).repeat(FALLS);
+    let start = State::start(&Decoded::new(&chain.score())).bytes();
+    let lent = lent(&score, start, &list, 4 * journal.len() + 8);
+    run(met, &lent, Answer::Accepted(FALLS as u64), &journal, &state_bytes(RUNNING, [CALL]))?;
+    check(met, &score, to_bytes(&journal), Answer::Accepted(FALLS as u64))?;
+    let lowest = journal.len() - chain.store().len();
+    check(met, &score, without(&journal, lowest), refused(14, FALLS as u64 - 1))
 }

@@ -9,7 +9,7 @@ use second::lent::*;
 use second::random::Random;
 use second::tests::{Met, Outcome};
 use second::words::to_bytes;
-use second::{lawful, oracle, scenes};
+use second::{chains, lawful, oracle, scenes};
 
 fn lent(random: &mut Random, score: Vec<u8>, journal: Vec<u8>) -> JournalCheckLent {
     JournalCheckLent { score, journal, scratch: scenes::dirt(random, SCRATCH_BYTES) }
@@ -47,6 +47,12 @@ pub fn of_scores_without_facts(met: &mut Met, random: &mut Random, _: u64) -> Ou
 
 pub fn of_special_scores(met: &mut Met, random: &mut Random, _: u64) -> Outcome {
     let score = scenes::special_score(random);
+    let lent = of_run(random, score, 4);
+    check_to_end(met, random, &lent)
+}
+
+pub fn of_long_chains(met: &mut Met, random: &mut Random, _: u64) -> Outcome {
+    let score = chains::long_chain(random);
     let lent = of_run(random, score, 4);
     check_to_end(met, random, &lent)
 }

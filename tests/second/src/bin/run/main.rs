@@ -47,6 +47,8 @@ const CATEGORIES: &[Category<Trial>] = &[
     ("journals of scores of the score check", 12_000, journals::of_checked_scores),
     ("calls in turn on one state", 6_000, calls_in_turn::any_calls),
     ("a fact added of what is always in the store", 4_000, added_fact::changes_nothing),
+    ("runs of long chains of rules", 500, runs::of_long_chains),
+    ("journals of long chains of rules", 500, journals::of_long_chains),
 ];
 
 fn test(tests: &mut Tests) {

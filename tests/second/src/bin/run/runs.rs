@@ -7,7 +7,7 @@ use second::decoded::Decoded;
 use second::lent::*;
 use second::random::Random;
 use second::tests::{ensure, Met, Outcome};
-use second::{lawful, oracle, scenes, words};
+use second::{chains, lawful, oracle, scenes, words};
 
 fn any_lawful(random: &mut Random, most_instants: u32) -> RunLent {
     let score = scenes::score(random);
@@ -40,6 +40,12 @@ pub fn of_special_scores(met: &mut Met, random: &mut Random, _: u64) -> Outcome 
     let score = scenes::special_score(random);
     let lent = lawful::run(random, score, 4);
     judge::run(met, random, &lent).map(|_| ())
+}
+
+pub fn of_long_chains(met: &mut Met, random: &mut Random, _: u64) -> Outcome {
+    let score = chains::long_chain(random);
+    let lent = lawful::run(random, score, 4);
+    run_to_end(met, random, &lent)
 }
 
 pub fn long(met: &mut Met, random: &mut Random, _: u64) -> Outcome {
