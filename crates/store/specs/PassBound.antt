@@ -7,7 +7,8 @@
 --     PassCount      how many passes there are: one that adds nothing is the last, one that adds a token is followed by another
 --     ClosedFrom     what closing gives: the closure of the given tokens, and how many passes there are from them
 --     OneClosed      both are settled
---     PassBound      each pass but the last adds a token, so that there are at most 257, whatever the rules and the tokens
+--     Bounded        each pass but the last adds a token, and there are at most 257
+--     PassBound      so it is with what closing gives, whatever the score and the tokens
 use mathlib.Core.Path.{_≡_}
 use mathlib.Core.Bool.{Bool, true, false, cond}
 use mathlib.Core.List.{List, [], _∷_}

@@ -1,4 +1,5 @@
--- For a rigger: however many switches are on, closing takes at most one pass more than the score has rules.
+-- The passes that closing takes, for a rigger, who knows how many rules a score has.
+--     RuleBound      however many switches are on, closing takes at most one pass more than the score has rules
 use Prim.Native.Nat.{ℕ, _+_, _≤_}
 use mathlib.Core.Bool.{Bool}
 use mathlib.Core.List.{List}
