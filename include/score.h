@@ -50,7 +50,7 @@ extern "C" {
 /* The lengths of what is lent beside a score; any other is refused with SCORE_BUFFER. */
 #define SCORE_STATE_BYTES 132
 #define SCORE_MAP_BYTES 32
-#define SCORE_SCRATCH_BYTES 2048
+#define SCORE_SCRATCH_BYTES 128 /* a bit for each agent */
 #define SCORE_PLAIN_BYTES 5384 /* for a plain score */
 
 /* A map is a set of tokens: token t is bit t % 8 of byte t / 8.
@@ -135,7 +135,8 @@ SCORE_MUST_USE uint64_t score_check(const uint8_t *score, size_t score_len);
  *   state    the agents awake; afterwards those awake next;
  *   store    afterwards the map of the tokens in the store at the instant's end, standing facts among them;
  *   output   afterwards the map of those of them from the lowest to the highest port;
- *   scratch  the call's working space.
+ *   scratch  the call's working space, whatever it holds: agent i is bit i % 8 of byte i / 8, set where it is reduced.
+ *            The count is the number of bits set, status 2 aside; they are cleared before the call returns.
  * To start a score, lend its start state; for each later instant lend the state as the last one left it.
  *
  * The answer's number is 0 (accepted) or one of 1 to 11; the lowest that applies is returned, 1 to 7 in the order of
@@ -164,7 +165,7 @@ SCORE_MUST_USE uint64_t score_instant(const uint8_t *score, size_t score_len, ui
  *   state    the agents awake; afterwards those awake after the last instant written;
  *   journal  of any length, and with any old content; afterwards the journal of the instants written, from its first
  *            byte on, and beyond them what it held;
- *   scratch  the call's working space.
+ *   scratch  the call's working space, whatever it holds; each instant uses it as in score_instant and leaves it zero.
  *
  * The answer's number is 0 (accepted) or one of 1 to 9, 11, 12, 13 and 15. 1 to 9 are tried as in score_instant, then
  * 12 and 13 over the whole list before the first instant, then 11 and 15 at each instant. An instant is written whole
@@ -192,7 +193,7 @@ SCORE_MUST_USE uint64_t score_run(const uint8_t *score, size_t score_len, uint8_
  *   score    which is checked first, as score_check does;
  *   journal  the journal, and not a byte beyond it.
  * Lent to be written:
- *   scratch  the call's working space.
+ *   scratch  the call's working space, whatever it holds; each instant uses it as in score_instant and leaves it zero.
  *
  * The answer's number is 0 (accepted) or one of 1 to 8 and 11 to 14. 1 to 8 are tried as in score_instant, then 12 and
  * 13 over the whole journal before the first instant, then 11 and 14 at each instant. A journal that ends early, at

@@ -3,21 +3,24 @@
 --     bitsValue-same      by the tests alone
 --     bitsValue-none      no bit, no number
 --     bitsValue-or        one more bit, set by a shift and an or
+--     bitsValue-skip, bitsValue-beyond     bits that are not set make no difference
 --     bitsValue-bit       bit j is set where the test holds of j
---     bit-none            no bit of 0 is set
+--     bit-small, bit-none     no bit of a number below 2 ^ j is set from j on; no bit of 0
+--     bit-low             bit j of the lowest n bits
+--     bit-shifted         bit j from bit b on
 --     bits-from           whether a bit from d on is set
 use mathlib.Core.Path.{_≡_, refl, sym, ap, ap₂, _∙_}
 use mathlib.Core.Bool.{Bool, true, false, cond, not, _&&_, _||_, or-false, or-true, and-false}
 use mathlib.Core.Logic.{by-cases}
 use Prim.Native.Nat.{ℕ, zero, suc, _+_, _*_, _-_, _/_, _%_, _^_, _<_, _≤_}
-use native.Mathlib.Decide.{decLt, ℕ-discrete}
-use native.Mathlib.Nat.{add-comm, one-mul, zero-mul, mul-assoc, mod-eq-of-lt, pow-suc, div-eq-of-lt, div-eq-of-lt-le, mul-add-div-right, mul-add-mod-self-right, not-suc-le-zero, lt-mul-div-succ, zero-div, lt-of-lt-of-le, le-trans}
+use native.Mathlib.Decide.{decLt, ℕ-discrete, le-ind}
+use native.Mathlib.Nat.{add-zero, add-comm, one-mul, zero-mul, mul-assoc, mod-eq-of-lt, pow-suc, div-eq-of-lt, div-eq-of-lt-le, mul-add-div-right, mul-add-mod-self-right, not-suc-le-zero, lt-mul-div-succ, zero-div, lt-of-lt-of-le, le-trans}
 use native.Mathlib.Numerals.{add-one}
 use native.Mathlib.Omega.{arith}
 use lib.Bits.{bitOr, or-shifted-r}
 use lib.Dec.{eqb, leb}
 use borrow.Author.Tests.{ne-eqb, le-leb, lt-leb}
-use lib.Pow.{pow-pos, pow-lt, pow-mono, pow-add, high}
+use lib.Pow.{pow-pos, pow-lt, pow-mono, pow-add, high, split, shr-shr}
 use Rattle.laws.specs.Sets.{below, any}
 use mir.Val.{boolByte}
 use Rattle.laws.proofs.Any.{any-more, any-none}
@@ -59,6 +62,13 @@ bitsValue-or f n h =
     fits : boolByte (f n) * 2 ^ n < 2 ^ 32
     fits = omega (arith, sym (placed (f n) n), placed-below (f n) n, pow-lt h)
 
+pub bitsValue-skip : (f : ℕ → Bool) (n : ℕ) → f n ≡ false → bitsValue f (n + 1) ≡ bitsValue f n
+unfolding bitsValue
+bitsValue-skip f n e = ap (bitsValue f) (add-one n) ∙ ap (λ b. bitsValue f n + cond b (2 ^ n) 0) e ∙ add-zero (bitsValue f n)
+
+pub bitsValue-beyond : (f : ℕ → Bool) (m n : ℕ) → m ≤ n → ((j : ℕ) → m ≤ j → f j ≡ false) → bitsValue f n ≡ bitsValue f m
+bitsValue-beyond f m n h none = le-ind (λ k. bitsValue f k ≡ bitsValue f m) refl (λ k l e. ap (bitsValue f) (sym (add-one k)) ∙ bitsValue-skip f k (none k l) ∙ e) n h
+
 pub bit-small : {w : ℕ} (j : ℕ) → w < 2 ^ j → bitAt w j ≡ false
 unfolding field
 bit-small j h = ap (λ x. eqb (x % 2) 1) (div-eq-of-lt h)
@@ -74,7 +84,6 @@ bit-digit : (b : Bool) → eqb (boolByte b % 2) 1 ≡ b
 bit-digit true = refl
 bit-digit false = refl
 
--- a higher boolByte is not seen at bit j
 bit-below : (hi m j lo : ℕ) → bitAt (hi * 2 ^ (suc m + j) + lo) j ≡ bitAt lo j
 unfolding field
 bit-below hi m j lo =
@@ -83,6 +92,15 @@ bit-below hi m j lo =
   where
     shifted : hi * 2 ^ (suc m + j) ≡ hi * 2 ^ m * 2 * 2 ^ j
     shifted = ap (λ x. hi * x) (pow-add 2 (suc m) j ∙ ap (λ x. x * 2 ^ j) (pow-suc 2 m)) ∙ sym (mul-assoc hi (2 ^ m * 2) (2 ^ j)) ∙ ap (λ x. x * 2 ^ j) (sym (mul-assoc hi (2 ^ m) 2))
+
+pub bit-low : (w : ℕ) {n j : ℕ} → j < n → bitAt w j ≡ bitAt (w % 2 ^ n) j
+bit-low w {n} {j} h =
+    let e : n ≡ suc (n - j - 1) + j = omega arith in
+    ap (λ x. bitAt x j) (sym (split w n)) ∙ ap (λ k. bitAt (w / 2 ^ n * 2 ^ k + w % 2 ^ n) j) e ∙ bit-below (w / 2 ^ n) (n - j - 1) j (w % 2 ^ n)
+
+pub bit-shifted : (w b j : ℕ) → bitAt (w / 2 ^ b) j ≡ bitAt w (b + j)
+unfolding field
+bit-shifted w b j = ap (λ x. eqb (x % 2) 1) (shr-shr w b j)
 
 bits-split : (f : ℕ → Bool) (n : ℕ) → bitsValue f (suc n) ≡ boolByte (f n) * 2 ^ n + bitsValue f n
 unfolding bitsValue

@@ -1,3 +1,5 @@
 pub mod Bits
 pub mod Filled
+pub mod Ones
 pub mod Bytes
+pub mod WordBits

@@ -12,6 +12,8 @@ pub mod Rules
 pub mod Determinacy
 pub mod Operational
 pub mod Corollaries
+pub mod AnyScratch
+pub mod CountOfOrders
 pub mod NotEmpty
 pub mod NoEleven
 pub mod Implied

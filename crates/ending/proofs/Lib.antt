@@ -1,2 +1,5 @@
 pub mod Spent
-pub mod Answers
+pub mod Reading
+pub mod Reduced
+pub mod Fates
+pub mod Parts

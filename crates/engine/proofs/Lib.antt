@@ -1,3 +1,4 @@
 pub mod Closing
 pub mod Settling
+pub mod ScratchCount
 pub mod Outcomes

@@ -10,16 +10,15 @@ use Prim.Native.Nat.{ℕ}
 use lib.ListN.{length, getD, replicate, length-replicate}
 use Rattle.laws.specs.Sets.{Same, any}
 use Rattle.laws.proofs.Booleans.{true-is-false}
-use Rattle.laws.proofs.Sets.{any-some, some-any}
 use Rattle.tcc.specs.Score.{Score, agentAt}
-use Rattle.tcc.specs.Instant.{isAbort, reducedOf, leftAwake, instant}
+use Rattle.tcc.specs.Instant.{isAbort, leftAwake, instant}
 use Rattle.tcc.specs.FixedPoint.{Settled}
-use Rattle.tcc.proofs.FixedPoint.{is-abort, aborts, settles}
 use Rattle.store.specs.Flags.{setOf, flagsOf}
 use Rattle.store.proofs.Flags.{flag-member, member-flag, setOf-none, flagsOf-length, flagsOf-member, member-flagsOf, flags-settled}
 use Rattle.engine.specs.declared.Outcome.{Outcome}
 use Rattle.engine.specs.Marks.{Fixed}
 use Rattle.engine.specs.Outcome.{outcomeOf}
+use Rattle.engine.proofs.ScratchCount.{aborts-so, settled-so}
 
 pub flags-none : (n : ℕ) → replicate n false ≡ flagsOf n []
 flags-none n = flags-settled n [] (replicate n false) (length-replicate n false) (λ i lt. (λ m. subst (λ l. List·Memᴰ i l) (setOf-none n) m, λ m. elim m [ ]))
@@ -36,28 +35,24 @@ module _ (sc : Score) (agents inputs lives : List ℕ) (held : List Bool) (fixed
 
   pub aborted-outcome : true ≡ Aborting → outcome 2 0 (replicate 256 false) (replicate 1024 false) ≡ outcomeOf (instant sc agents inputs)
   unfolding outcomeOf
-  aborted-outcome e =
-      let x = any-some (λ i. isAbort (agentAt sc i)) lives (sym e) in
-      let z = aborts sc agents inputs lives (setOf held) (fixed .sound) (x .0) (x .1) (is-abort (agentAt sc (x .0)) (x .2)) in
-      ap (λ s. outcome 2 0 s (replicate 1024 false)) (flags-none 256) ∙ ap (outcome 2 0 (flagsOf 256 [])) (flags-none 1024) ∙ ap outcomeOf (sym z)
+  aborted-outcome e = ap (λ s. outcome 2 0 s (replicate 1024 false)) (flags-none 256) ∙ ap (outcome 2 0 (flagsOf 256 [])) (flags-none 1024) ∙ ap outcomeOf (sym (aborts-so sc agents inputs lives (setOf held) fixed e))
 
   module _ (none : false ≡ Aborting) where
     quiet : Settled sc lives (setOf held) (instant sc agents inputs)
-    quiet = settles sc agents inputs lives (setOf held) (fixed .sound) (fixed .closed)
-        (λ i m e. true-is-false (some-any (λ j. isAbort (agentAt sc j)) m (ap isAbort e)) (sym none))
+    quiet = settled-so sc agents inputs lives (setOf held) fixed none
 
     same-status : (b : Bool) → getD held 0 false ≡ b → cond b 1 0 ≡ instant sc agents inputs .status
     same-status true e = sym (quiet .clash (flag-member held e))
     same-status false e = sym (quiet .no-clash (λ m. true-is-false (member-flag held m) e))
 
     pub quiet-outcome : (status count : ℕ) (awake : List Bool) → length held ≡ 256 → status ≡ cond (getD held 0 false) 1 0 →
-        count ≡ length (reducedOf sc (setOf held) lives) → awake ≡ flagsOf 1024 (leftAwake sc (setOf held) lives) →
+        ((instant sc agents inputs .status ≡ 2 → ⊥) → count ≡ length (instant sc agents inputs .reduced)) → awake ≡ flagsOf 1024 (leftAwake sc (setOf held) lives) →
         outcome status count held awake ≡ outcomeOf (instant sc agents inputs)
     unfolding outcomeOf
     quiet-outcome status count awake long p q r =
         let a = instant sc agents inputs in
         let p′ : status ≡ a .status = p ∙ same-status (getD held 0 false) refl in
-        let q′ : count ≡ length (a .reduced) = q ∙ ap length (quiet .same-reduced) in
+        let q′ : count ≡ length (a .reduced) = q (quiet .unaborted) in
         let s′ : held ≡ flagsOf 256 (a .store) = flags-settled 256 (a .store) held long (λ i lt. quiet .same-store i) in
         let r′ : awake ≡ flagsOf 1024 (a .awake) = r ∙ flags-same 1024 (quiet .same-awake) in
         ap (λ x. outcome x count held awake) p′ ∙ ap (λ x. outcome (a .status) x held awake) q′

@@ -4,6 +4,7 @@ ghost use Rattle.tcc.specs.Instant.{instant};
 ghost use Rattle.format.specs.Decode.{sizes, decode};
 ghost use Rattle.format.specs.Playable.{Playable};
 ghost use Rattle.store.specs.Flags.{setOf};
+ghost use Rattle.lent.specs.Lengths.{noScratch};
 ghost use Rattle.engine.specs.Marks.{Fixed};
 ghost use Rattle.engine.specs.Outcome.{outcomeOf};
 use format::Sizes;
@@ -18,15 +19,19 @@ pub struct Outcome {
     pub awake: Agents,
 }
 
-// One instant of a playable score, from the agents that are awake and the input tokens.
-pub fn play(s: &[u8], head: Sizes, agents: Agents, inputs: Tokens) -> Outcome
+// One instant of a playable score, from the agents that are awake and the input tokens, in a scratch that is zero and is
+// left so. The agents reduced are bits in it in between, and the count is taken from them.
+pub fn play(s: &[u8], head: Sizes, agents: Agents, inputs: Tokens, scratch: &mut [u8]) -> Outcome
     requires { ⌜ head ≡ sizes (now s) ⌝ }
     requires { ⌜ Playable (now s) ⌝ }
+    requires { ⌜ now scratch ≡ noScratch ⌝ }
     ensures { λ r. ⌜ r ≡ outcomeOf (instant (decode (now (s .entry))) (setOf agents) (setOf inputs)) ⌝ }
+    ensures { λ _. ⌜ now (scratch .exit) ≡ noScratch ⌝ }
 {
     let mut live = agents;
     let held = settle(s, head, &mut live, inputs);
-    let end = ending::end_of(s, head, &live, &held);
+    let end = ending::end_of(s, head, &live, &held, scratch);
+    let count = tally::count_and_clear(scratch, 4 * ((head.agents + 31) / 32));
     if end.aborted {
         Outcome {
             status: 2,
@@ -36,7 +41,6 @@ pub fn play(s: &[u8], head: Sizes, agents: Agents, inputs: Tokens) -> Outcome
         }
     } else {
         let status = if held[0] { 1 } else { 0 };
-        let count = end.count;
         let awake = end.awake;
         Outcome {
             status,

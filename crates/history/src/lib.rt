@@ -6,10 +6,9 @@ ghost use Rattle.tcc.specs.Instant.{startState, answer};
 ghost use Rattle.format.specs.Decode.{sizes, decode};
 ghost use Rattle.format.specs.Playable.{Playable};
 ghost use Rattle.store.specs.Flags.{setOf};
-ghost use Rattle.lent.specs.Lengths.{stateBytes};
+ghost use Rattle.lent.specs.Lengths.{stateBytes, noScratch};
 ghost use Rattle.lent.specs.States.{stateOf, asBytes, LawfulState};
 ghost use Rattle.standing.specs.Standing.{stateIn};
-use form::Form;
 ghost use Rattle.history.specs.Stepped.{Stepped};
 use format::Sizes;
 use standing::Standing;
@@ -50,14 +49,22 @@ pub struct Step {
 }
 
 // Plays one instant from where a score stands.
-pub fn step_from(score: &[u8], head: Sizes, standing: Standing, told: Tokens) -> Step
+pub fn step_from(
+    score: &[u8],
+    head: Sizes,
+    standing: Standing,
+    told: Tokens,
+    scratch: &mut [u8],
+) -> Step
     requires { ⌜ head ≡ sizes (now score) ⌝ }
     requires { ⌜ Playable (now score) ⌝ }
     requires { ⌜ LawfulState (sizes (now score) .agents) (stateIn standing) ⌝ }
     requires { ⌜ ((t : ℕ) → sizes (now score) .tokens ≤ t → getD told t false ≡ false) ⌝ }
+    requires { ⌜ now scratch ≡ noScratch ⌝ }
     ensures { λ r. ⌜ Stepped (now (score .entry)) (answer (decode (now (score .entry))) (stateIn standing) (setOf told)) r ⌝ }
+    ensures { λ _. ⌜ now (scratch .exit) ≡ noScratch ⌝ }
 {
-    let outcome = standing::answer_from(score, head, standing, told);
+    let outcome = standing::answer_from(score, head, standing, told, scratch);
     let awake = outcome.awake;
     let held = outcome.store;
     let out = standing::sent(score, held);

@@ -1,12 +1,11 @@
 ghost use mathlib.Core.Path.{_≡_};
-ghost use mathlib.Core.Bool.{not};
 ghost use lib.ListN.{length};
 ghost use Rattle.tcc.specs.Instant.{answer};
 ghost use Rattle.format.specs.Decode.{sizes, decode};
 ghost use Rattle.format.specs.Playable.{Playable};
 ghost use Rattle.store.specs.Flags.{setOf};
 ghost use Rattle.engine.specs.Outcome.{outcomeOf};
-ghost use Rattle.lent.specs.Lengths.{stateBytes};
+ghost use Rattle.lent.specs.Lengths.{stateBytes, noScratch};
 ghost use Rattle.lent.specs.States.{stateOf};
 ghost use Rattle.instant.specs.InstantCall.{lent, InstantCall};
 use engine::Outcome;
@@ -62,8 +61,8 @@ pub fn call(
     if bits::any_from(&inputs, head.tokens) {
         return Reply::Input;
     }
-    let outcome = answer_in(score, head, state, inputs);
     bits::clear(scratch);
+    let outcome = answer_in(score, head, state, inputs, scratch);
     let awake = outcome.awake;
     if bits::any_from(&awake, head.agents) {
         return Reply::Next;
@@ -73,11 +72,13 @@ pub fn call(
 }
 
 // The answer in a state.
-fn answer_in(score: &[u8], head: Sizes, state: &[u8], inputs: Tokens) -> Outcome
+fn answer_in(score: &[u8], head: Sizes, state: &[u8], inputs: Tokens, scratch: &mut [u8]) -> Outcome
     requires { ⌜ head ≡ sizes (now score) ⌝ }
     requires { ⌜ Playable (now score) ⌝ }
     requires { ⌜ length (now state) ≡ stateBytes ⌝ }
+    requires { ⌜ now scratch ≡ noScratch ⌝ }
     ensures { λ r. ⌜ r ≡ outcomeOf (answer (decode (now (score .entry))) (stateOf (now (state .entry))) (setOf inputs)) ⌝ }
+    ensures { λ _. ⌜ now (scratch .exit) ≡ noScratch ⌝ }
 {
-    standing::answer_from(score, head, standing::standing_in(state), inputs)
+    standing::answer_from(score, head, standing::standing_in(state), inputs, scratch)
 }

@@ -7,6 +7,7 @@ ghost use Rattle.words.specs.Word.{words};
 ghost use Rattle.format.specs.Decode.{sizes, decode};
 ghost use Rattle.format.specs.Playable.{Playable};
 ghost use Rattle.store.specs.Flags.{setOf};
+ghost use Rattle.lent.specs.Lengths.{noScratch};
 ghost use Rattle.lent.specs.States.{LawfulState};
 ghost use Rattle.standing.specs.Standing.{stateIn};
 ghost use Rattle.form.specs.declared.Form.the-variants.{Good};
@@ -49,24 +50,26 @@ pub fn call(score: &[u8], journal: &[u8], scratch: &mut [u8]) -> Reply
         Form::Word(k) => Reply::Word(k),
         Form::Good => {
             bits::clear(scratch);
-            check_list(score, head, journal)
+            check_list(score, head, journal, scratch)
         }
     }
 }
 
 // Reads the instants of a journal of good form until one is not what the run writes.
-fn check_list(score: &[u8], head: Sizes, journal: &[u8]) -> Reply
+fn check_list(score: &[u8], head: Sizes, journal: &[u8], scratch: &mut [u8]) -> Reply
     requires { ⌜ head ≡ sizes (now score) ⌝ }
     requires { ⌜ Playable (now score) ⌝ }
     requires { ⌜ formOf true (sizes (now score) .tokens) (now journal) ≡ Good ⌝ }
+    requires { ⌜ now scratch ≡ noScratch ⌝ }
     ensures { λ r. ⌜ r ≡ checked (now (score .entry)) (now (journal .entry)) ⌝ }
+    ensures { λ _. ⌜ now (scratch .exit) ≡ noScratch ⌝ }
 {
     let mut stands = history::start(score, head);
     let mut instants = 0;
     let mut at = 0;
     while at < journal.len() {
         let here = parts::part(journal, Form::Good, at);
-        let checked = check_instant(score, head, stands, here);
+        let checked = check_instant(score, head, stands, here, scratch);
         if checked.unlawful {
             return Reply::Unlawful;
         }
@@ -81,15 +84,23 @@ fn check_list(score: &[u8], head: Sizes, journal: &[u8]) -> Reply
 }
 
 // Plays the instant that the words of a journal tell, and holds its words against them.
-fn check_instant(score: &[u8], head: Sizes, standing: Standing, here: &[u8]) -> Checked
+fn check_instant(
+    score: &[u8],
+    head: Sizes,
+    standing: Standing,
+    here: &[u8],
+    scratch: &mut [u8],
+) -> Checked
     requires { ⌜ head ≡ sizes (now score) ⌝ }
     requires { ⌜ Playable (now score) ⌝ }
     requires { ⌜ LawfulState (sizes (now score) .agents) (stateIn standing) ⌝ }
     requires { ⌜ Formed (sizes (now score) .tokens) (words (now here)) ⌝ }
+    requires { ⌜ now scratch ≡ noScratch ⌝ }
     ensures { λ r. ⌜ Held (now (score .entry)) (answer (decode (now (score .entry))) (stateIn standing) (inputsIn (words (now (here .entry))))) (words (now (here .entry))) r ⌝ }
+    ensures { λ _. ⌜ now (scratch .exit) ≡ noScratch ⌝ }
 {
     let told = parts::tokens_in(here, 13);
-    let step = history::step_from(score, head, standing, told);
+    let step = history::step_from(score, head, standing, told, scratch);
     let out = step.out;
     let after = step.standing;
     let differs = differs_from(here, step.status, &out);

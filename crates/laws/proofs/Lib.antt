@@ -1,4 +1,5 @@
 pub mod Any
 pub mod Booleans
+pub mod Counted
 pub mod Lists
 pub mod Sets

@@ -1,5 +1,5 @@
--- The lengths in bytes of what the caller lends: "State: 33 words. Input, store and output maps: 32 bytes. Scratch: 2,048
--- bytes."
+-- The lengths in bytes of what the caller lends: "State: 33 words. Input, store and output maps: 32 bytes." "An instant, a
+-- run and a journal check shall work in 128 bytes of scratch" (W4).
 --     stateBytes, mapBytes, scratchBytes
 --     noScratch                            a scratch that is all zero
 use mathlib.Core.List.{List}
@@ -13,7 +13,7 @@ abbrev pub mapBytes : ℕ
 mapBytes = 32
 
 abbrev pub scratchBytes : ℕ
-scratchBytes = 2048
+scratchBytes = 128
 
 abbrev pub noScratch : List ℕ
 noScratch = replicate scratchBytes 0

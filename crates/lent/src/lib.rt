@@ -16,7 +16,7 @@ pub const STATE_BYTES: usize = 132;
 
 pub const MAP_BYTES: usize = 32;
 
-pub const SCRATCH_BYTES: usize = 2048;
+pub const SCRATCH_BYTES: usize = 128;
 
 // Word 0 of a state.
 pub const RUNNING: u32 = 0xF000_0000;

@@ -4,7 +4,7 @@ ghost use lib.Dec.{eqb};
 ghost use lib.ListN.{length};
 ghost use Rattle.format.specs.Decode.{sizes};
 ghost use Rattle.format.specs.Playable.{Playable};
-ghost use Rattle.lent.specs.Lengths.{stateBytes, scratchBytes};
+ghost use Rattle.lent.specs.Lengths.{stateBytes, scratchBytes, noScratch};
 ghost use Rattle.lent.specs.States.{stateFault, asBytes, LawfulState};
 ghost use Rattle.standing.specs.Standing.{stateIn};
 ghost use Rattle.form.specs.declared.Form.the-variants.{Good};
@@ -44,22 +44,31 @@ pub fn call(
         Form::Word(k) => Reply::Word(k),
         Form::Good => {
             bits::clear(scratch);
-            run_from(score, head, state, inputs, journal)
+            run_from(score, head, state, inputs, journal, scratch)
         }
     }
 }
 
 // Runs a list of good form from a lawful state.
-fn run_from(score: &[u8], head: Sizes, state: &mut [u8], inputs: &[u8], journal: &mut [u8]) -> Reply
+fn run_from(
+    score: &[u8],
+    head: Sizes,
+    state: &mut [u8],
+    inputs: &[u8],
+    journal: &mut [u8],
+    scratch: &mut [u8],
+) -> Reply
     requires { ⌜ head ≡ sizes (now score) ⌝ }
     requires { ⌜ Playable (now score) ⌝ }
     requires { ⌜ length (now state) ≡ stateBytes ⌝ }
     requires { ⌜ stateFault (sizes (now score) .agents) (now state) ≡ false ⌝ }
     requires { ⌜ formOf false (sizes (now score) .tokens) (now inputs) ≡ Good ⌝ }
+    requires { ⌜ now scratch ≡ noScratch ⌝ }
     ensures { λ r. ⌜ LeftBy (runFrom (now (score .entry)) (now (state .entry)) (length (now (journal .entry))) (inputLists (now (inputs .entry)))) (now (journal .entry)) (now (state .exit)) (now (journal .exit)) r ⌝ }
+    ensures { λ _. ⌜ now (scratch .exit) ≡ noScratch ⌝ }
 {
     let standing = standing::standing_in(state);
-    let ended = runlist::run_list(score, head, standing, inputs, journal);
+    let ended = runlist::run_list(score, head, standing, inputs, journal, scratch);
     keep(state, head.agents, ended);
     let stop = ended.stop;
     reply_of(stop, ended.instants)

@@ -7,6 +7,7 @@ ghost use Rattle.tcc.specs.Instant.{answer};
 ghost use Rattle.format.specs.Decode.{sizes, decode};
 ghost use Rattle.format.specs.Playable.{Playable};
 ghost use Rattle.store.specs.Flags.{setOf};
+ghost use Rattle.lent.specs.Lengths.{noScratch};
 ghost use Rattle.lent.specs.States.{stateOf, LawfulState};
 ghost use Rattle.standing.specs.Standing.{stateIn};
 ghost use Rattle.form.specs.declared.Form.the-variants.{Good};
@@ -50,12 +51,15 @@ pub fn run_list(
     standing: Standing,
     inputs: &[u8],
     journal: &mut [u8],
+    scratch: &mut [u8],
 ) -> Ended
     requires { ⌜ head ≡ sizes (now score) ⌝ }
     requires { ⌜ Playable (now score) ⌝ }
     requires { ⌜ LawfulState (sizes (now score) .agents) (stateIn standing) ⌝ }
     requires { ⌜ formOf false (sizes (now score) .tokens) (now inputs) ≡ Good ⌝ }
+    requires { ⌜ now scratch ≡ noScratch ⌝ }
     ensures { λ r. ⌜ ((s : List ℕ) → stateOf s ≡ stateIn standing → RanTo (now (score .entry)) s (now (journal .entry)) (now (journal .exit)) (runFrom (now (score .entry)) s (length (now (journal .entry))) (inputLists (now (inputs .entry)))) r) ⌝ }
+    ensures { λ _. ⌜ now (scratch .exit) ≡ noScratch ⌝ }
 {
     let mut stands = standing;
     let mut instants = 0;
@@ -64,7 +68,7 @@ pub fn run_list(
     while at < inputs.len() {
         let here = parts::part(inputs, Form::Good, at);
         let told = parts::tokens_in(here, 13);
-        let taken = advance(score, head, stands, told, &mut journal[filled..]);
+        let taken = advance(score, head, stands, told, &mut journal[filled..], scratch);
         let stop = taken.stop;
         if goes_on(stop) {
             stands = taken.standing;
@@ -87,14 +91,23 @@ pub fn run_list(
 }
 
 // Plays one instant and writes it at the front of a journal buffer, if it can be written.
-fn advance(score: &[u8], head: Sizes, standing: Standing, told: Tokens, journal: &mut [u8]) -> Taken
+fn advance(
+    score: &[u8],
+    head: Sizes,
+    standing: Standing,
+    told: Tokens,
+    journal: &mut [u8],
+    scratch: &mut [u8],
+) -> Taken
     requires { ⌜ head ≡ sizes (now score) ⌝ }
     requires { ⌜ Playable (now score) ⌝ }
     requires { ⌜ LawfulState (sizes (now score) .agents) (stateIn standing) ⌝ }
     requires { ⌜ ((t : ℕ) → sizes (now score) .tokens ≤ t → getD told t false ≡ false) ⌝ }
+    requires { ⌜ now scratch ≡ noScratch ⌝ }
     ensures { λ r. ⌜ Advanced (now (score .entry)) (answer (decode (now (score .entry))) (stateIn standing) (setOf told)) (entry (decode (now (score .entry))) (setOf told) (answer (decode (now (score .entry))) (stateIn standing) (setOf told))) (now (journal .entry)) (now (journal .exit)) r ⌝ }
+    ensures { λ _. ⌜ now (scratch .exit) ≡ noScratch ⌝ }
 {
-    let step = history::step_from(score, head, standing, told);
+    let step = history::step_from(score, head, standing, told, scratch);
     let out = step.out;
     let after = step.standing;
     let bytes = journal::size(head.tokens, &told, &out);

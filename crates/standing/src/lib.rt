@@ -8,7 +8,7 @@ ghost use Rattle.format.specs.Decode.{sizes, decode};
 ghost use Rattle.format.specs.Playable.{Playable};
 ghost use Rattle.store.specs.Flags.{setOf, flagsOf};
 ghost use Rattle.engine.specs.Outcome.{outcomeOf};
-ghost use Rattle.lent.specs.Lengths.{stateBytes};
+ghost use Rattle.lent.specs.Lengths.{stateBytes, noScratch};
 ghost use Rattle.lent.specs.States.{asBytes, LawfulState};
 ghost use Rattle.standing.specs.Standing.{stateIn, standingIn};
 use engine::Outcome;
@@ -33,14 +33,22 @@ pub fn standing_in(state: &[u8]) -> Standing
 }
 
 // The answer from where a score stands: an aborted one stays aborted.
-pub fn answer_from(score: &[u8], head: Sizes, standing: Standing, inputs: Tokens) -> Outcome
+pub fn answer_from(
+    score: &[u8],
+    head: Sizes,
+    standing: Standing,
+    inputs: Tokens,
+    scratch: &mut [u8],
+) -> Outcome
     requires { ⌜ head ≡ sizes (now score) ⌝ }
     requires { ⌜ Playable (now score) ⌝ }
+    requires { ⌜ now scratch ≡ noScratch ⌝ }
     ensures { λ r. ⌜ r ≡ outcomeOf (answer (decode (now (score .entry))) (stateIn standing) (setOf inputs)) ⌝ }
+    ensures { λ _. ⌜ now (scratch .exit) ≡ noScratch ⌝ }
 {
     let awake = standing.awake;
     if standing.running {
-        engine::play(score, head, awake, inputs)
+        engine::play(score, head, awake, inputs, scratch)
     } else {
         Outcome {
             status: 2,

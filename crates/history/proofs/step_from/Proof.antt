@@ -1,7 +1,8 @@
 -- `step_from`: what the parts return is the instant.
-use mathlib.Core.Path.{refl}
+use mathlib.Core.Path.{refl, sym, ap, _∙_}
 use borrow.Author.Needs.{needs}
 use lib.Dec.{leb}
+use lib.ListN.{length}
 use Rattle.laws.specs.Sets.{any}
 use Rattle.scorefile.proofs.Stages.{by-head}
 use Rattle.store.specs.Flags.{setOf}
@@ -25,14 +26,19 @@ any-from-requires c κs = search needs
 standing-after-requires : tie.Need-standing-after-requires
 standing-after-requires c κs = search needs
 
+same-length : tie.Need-same-length
+same-length c = ap length (c .before .before .before .before .before .before .before .before .answer-from .ensures .1 ∙ sym (c .before .before .before .before .before .before .before .before .before .before .before .before .pre .1 .1 .1 .1))
+
 returns : tie.Need-returns
 returns c =
-    let b = c .before .before .before .before .before .before .before .before in
-    let o = c .before .before .before .before .before .before .answer-from in
-    stepped (b .args .score .now) (b .pre .1 .0) (stateIn (b .args .standing)) (b .pre .1 .1 .0) (b .args .told) (b .pre .1 .1 .1) (o .result) (o .ensures)
-    _ refl (c .before .before .before .sent .ensures (o .result .status))
-    (by-head (λ h. any (λ i. leb (h .agents) i) (setOf (o .result .awake))) (b .pre .0) (c .before .any-from .ensures))
-    (c .standing-after .ensures)
+    let b = c .before .before .before .before .before .before .before .before .before .before .before .before in
+    let o = c .before .before .before .before .before .before .before .before .answer-from in (
+      stepped (b .args .score .now) (b .pre .1 .0) (stateIn (b .args .standing)) (b .pre .1 .1 .0) (b .args .told) (b .pre .1 .1 .1 .0) (o .result) (o .ensures .0)
+          _ refl (c .before .before .before .sent .ensures (o .result .status))
+          (by-head (λ h. any (λ i. leb (h .agents) i) (setOf (o .result .awake))) (b .pre .0) (c .before .any-from .ensures))
+          (c .standing-after .ensures),
+      o .ensures .1,
+    )
 
 pub step-from-spec : {M : Type 1} → statement M
 step-from-spec =
@@ -43,4 +49,5 @@ step-from-spec =
     slice-aggregate-any-from
     any-from-requires
     standing-after-requires
+    same-length
     returns)

@@ -68,10 +68,10 @@ token-fault c =
 abbrev answer-of : tie.Start → Answer
 answer-of b = answer (decode (b .args .score .now)) (stateOf (b .args .state .now)) (tokensIn (b .args .input .now))
 
-outcome-is : (c : tie.After-answer-in) → c .answer-in .result ≡ outcomeOf (answer-of (c .before .before .before .before .before .before .before .before .before .before .before .before .before .before .before .before .before .before .before .before .before .before))
+outcome-is : (c : tie.After-answer-in) → c .answer-in .result ≡ outcomeOf (answer-of (c .before .before .before .before .before .before .before .before .before .before .before .before .before .before .before .before .before .before .before .before .before .before .before .before .before .before .before))
 outcome-is c =
-    let b = c .before .before .before .before .before .before .before .before .before .before .before .before .before .before .before .before .before .before .before .before .before .before in
-    c .answer-in .ensures ∙ ap (λ l. outcomeOf (answer (decode (b .args .score .now)) (stateOf (b .args .state .now)) l)) (inputs-are (c .before .before .before .before .before))
+    let b = c .before .before .before .before .before .before .before .before .before .before .before .before .before .before .before .before .before .before .before .before .before .before .before .before .before .before .before in
+    c .answer-in .ensures .0 ∙ ap (λ l. outcomeOf (answer (decode (b .args .score .now)) (stateOf (b .args .state .now)) l)) (inputs-are (c .before .before .before .before .before .before .before .before .before .before))
 
 inside : (c : tie.Else4) → Inside (decode (c .before .before .before .before .before .before .before .before .before .before .before .before .before .before .before .before .before .before .before .before .args .score .now)) (answer-of (c .before .before .before .before .before .before .before .before .before .before .before .before .before .before .before .before .before .before .before .before))
 inside c =
@@ -136,11 +136,13 @@ returns-4 c =
     let b = c .before .before .before .before .before .before .before .before .before .before .before .before .before .before .before .before .before .before .before .before in
     record { exits = input (b .args .score .now) (b .args .input .now) (buffers b) (accepted (c .before .before .before .before .before .before .before .before .before .before .before)) (long (c .before .before .before .before .before .before .before .before .before)) (state-lawful (c .before .before .before .before)) (sym (token-fault (c .before)) ∙ c .if4 .taken) }
 
-answer-in-requires : tie.Need-answer-in-requires
-answer-in-requires c κs = (sizes-are (c .before .before .before .before .before .before .before .before), (playable (c .before .before .before .before .before .before .before .before .before .before .before .before), lengths-are (c .before .before .before .before .before .before .before .before .before .before) .state-long))
-
 clear-requires : tie.Need-clear-requires
 clear-requires c κs = search needs
+
+answer-in-requires : tie.Need-answer-in-requires
+answer-in-requires c κs =
+    let l = lengths-are (c .before .before .before .before .before .before .before .before .before .before .before .before .before .before .before) in
+    (sizes-are (c .before .before .before .before .before .before .before .before .before .before .before .before .before), (playable (c .before .before .before .before .before .before .before .before .before .before .before .before .before .before .before .before .before), (l .state-long, c .before .before .before .before .clear .ensures ∙ ap (λ k. replicate k 0) (l .scratch-long))))
 
 slice-aggregate-any-from-2 : tie.Need-slice-aggregate-any-from-2
 slice-aggregate-any-from-2 c = search needs
@@ -157,32 +159,32 @@ same-length-4 c = search needs
 returns-5 : tie.Need-returns-5
 unfolding outcomeOf
 returns-5 c =
-    let b = c .before .before .before .before .before .before .before .before .before .before .before .before .before .before .before .before .before .before .before .before .before .before .before .before .before .before .before .before .before .before in
+    let b = c .before .before .before .before .before .before .before .before .before .before .before .before .before .before .before .before .before .before .before .before .before .before .before .before .before .before .before .before .before .before .before .before .before in
     let sc = decode (b .args .score .now) in
-    let h = ap (λ x. x .agents) (sizes-are (c .before .before .before .before .before .before .before .before .before .before .before .before .before .before .before .before .before)) in
-    let e = playable-agents (b .args .score .now) (playable (c .before .before .before .before .before .before .before .before .before .before .before .before .before .before .before .before .before .before .before .before .before)) in
-    let none : any (λ i. leb (c .before .before .before .before .before .before .before .before .before .before .before .before .before .before .before .before .before .sizes-of .result .agents) i) (setOf (c .before .before .before .before .before .before .before .before .answer-in .result .awake)) ≡ false =
-    from-none _ _ (λ i le. ap (λ o. getD (o .awake) i false) (outcome-is (c .before .before .before .before .before .before .before .before)) ∙ flags-known 1024 (length (sc .agents)) (answer-of b .awake) (inside (c .before .before .before .before .before .before .before .before .before .before) .agents) i (omega (arith, h, e))) in
+    let h = ap (λ x. x .agents) (sizes-are (c .before .before .before .before .before .before .before .before .before .before .before .before .before .before .before .before .before .before .before .before)) in
+    let e = playable-agents (b .args .score .now) (playable (c .before .before .before .before .before .before .before .before .before .before .before .before .before .before .before .before .before .before .before .before .before .before .before .before)) in
+    let none : any (λ i. leb (c .before .before .before .before .before .before .before .before .before .before .before .before .before .before .before .before .before .before .before .before .sizes-of .result .agents) i) (setOf (c .before .before .before .before .before .before .answer-in .result .awake)) ≡ false =
+    from-none _ _ (λ i le. ap (λ o. getD (o .awake) i false) (outcome-is (c .before .before .before .before .before .before)) ∙ flags-known 1024 (length (sc .agents)) (answer-of b .awake) (inside (c .before .before .before .before .before .before .before .before .before .before .before .before .before) .agents) i (omega (arith, h, e))) in
     absurd (true≢false (sym (c .if5 .taken) ∙ c .before .any-from2 .ensures ∙ none))
 
 hand-over-requires : tie.Need-hand-over-requires
 unfolding outcomeOf
 hand-over-requires c κs =
-    let b = c .before .before .before .before .before .before .before .before .before .before .before .before .before .before .before .before .before .before .before .before .before .before .before .before .before .before .before .before .before .before .before .before .before in
+    let b = c .before .before .before .before .before .before .before .before .before .before .before .before .before .before .before .before .before .before .before .before .before .before .before .before .before .before .before .before .before .before .before .before .before .before .before .before in
     let a = c .before .before .before in
-    let l = lengths-are (c .before .before .before .before .before .before .before .before .before .before .before .before .before .before .before .before .before .before .before .before .before .before) in
-    let h = sizes-are (c .before .before .before .before .before .before .before .before .before .before .before .before .before .before .before .before .before .before .before .before) in (
+    let l = lengths-are (c .before .before .before .before .before .before .before .before .before .before .before .before .before .before .before .before .before .before .before .before .before .before .before .before .before) in
+    let h = sizes-are (c .before .before .before .before .before .before .before .before .before .before .before .before .before .before .before .before .before .before .before .before .before .before .before) in (
       h,
       (
-        playable (c .before .before .before .before .before .before .before .before .before .before .before .before .before .before .before .before .before .before .before .before .before .before .before .before),
+        playable (c .before .before .before .before .before .before .before .before .before .before .before .before .before .before .before .before .before .before .before .before .before .before .before .before .before .before .before),
         (
           record { state-bytes = l .state-long; store-bytes = l .store-long; output-bytes = l .output-long },
           record {
             agents = none-from _ _ (sym (c .before .before .before .before .any-from2 .ensures) ∙ a .if5 .left);
             tokens =
                 λ t le.
-                ap (λ o. getD (o .store) t false) (outcome-is (c .before .before .before .before .before .before .before .before .before .before .before))
-                ∙ flags-known 256 (decode (b .args .score .now) .tokens) (answer-of b .store) (inside (c .before .before .before .before .before .before .before .before .before .before .before .before .before) .tokens) t (omega (arith, decode-tokens (b .args .score .now), ap (λ x. x .tokens) h));
+                ap (λ o. getD (o .store) t false) (outcome-is (c .before .before .before .before .before .before .before .before .before))
+                ∙ flags-known 256 (decode (b .args .score .now) .tokens) (answer-of b .store) (inside (c .before .before .before .before .before .before .before .before .before .before .before .before .before .before .before .before) .tokens) t (omega (arith, decode-tokens (b .args .score .now), ap (λ x. x .tokens) h));
           },
         ),
       ),
@@ -202,20 +204,19 @@ same-length-8 c = search needs
 
 returns-6 : tie.Need-returns-6
 returns-6 c =
-    let b = c .before .before .before .before .before .before .before .before .before .before .before .before .before .before .before .before .before .before .before .before .before .before .before .before .before .before .before .before .before .before .before .before .before .before .before .before .before .before .before .before in
+    let b = c .before .before .before .before .before .before .before .before .before .before .before .before .before .before .before .before .before .before .before .before .before .before .before .before .before .before .before .before .before .before .before .before .before .before .before .before .before .before .before .before .before .before .before in
     let s = b .args .score .now in
     let sc = decode s in
     let a = answer-of b in
-    let i = inside (c .before .before .before .before .before .before .before .before .before .before .before .before .before .before .before .before .before .before .before .before) in
-    let p = playable (c .before .before .before .before .before .before .before .before .before .before .before .before .before .before .before .before .before .before .before .before .before .before .before .before .before .before .before .before .before .before .before) in
+    let i = inside (c .before .before .before .before .before .before .before .before .before .before .before .before .before .before .before .before .before .before .before .before .before .before .before) in
+    let p = playable (c .before .before .before .before .before .before .before .before .before .before .before .before .before .before .before .before .before .before .before .before .before .before .before .before .before .before .before .before .before .before .before .before .before .before) in
     let few = sizes-few s in
     let n = playable-agents s p in
     let t = decode-tokens s in
     record {
       exits =
-          handed sc a (omega arith) (omega arith) i (outcome-is (c .before .before .before .before .before .before .before .before .before .before .before .before .before .before .before .before .before .before)) (c .before .before .before .before .before .before .hand-over .ensures)
-          (c .before .before .before .before .before .before .before .before .before .before .before .before .before .before .before .before .clear .ensures ∙ ap (λ k. replicate k 0) (lengths-are (c .before .before .before .before .before .before .before .before .before .before .before .before .before .before .before .before .before .before .before .before .before .before .before .before .before .before .before .before .before) .scratch-long))
-          (settled s (b .args .input .now) (buffers b) (accepted (c .before .before .before .before .before .before .before .before .before .before .before .before .before .before .before .before .before .before .before .before .before .before .before .before .before .before .before .before .before .before .before)) (long (c .before .before .before .before .before .before .before .before .before .before .before .before .before .before .before .before .before .before .before .before .before .before .before .before .before .before .before .before .before)) (state-lawful (c .before .before .before .before .before .before .before .before .before .before .before .before .before .before .before .before .before .before .before .before .before .before .before .before)) (sym (token-fault (c .before .before .before .before .before .before .before .before .before .before .before .before .before .before .before .before .before .before .before .before .before)) ∙ c .before .before .before .before .before .before .before .before .before .before .before .before .before .before .before .before .before .before .before .before .if4 .left) a refl (next-lawful sc a (sizes s .agents) n (omega arith) i));
+          handed sc a (omega arith) (omega arith) i (outcome-is (c .before .before .before .before .before .before .before .before .before .before .before .before .before .before .before .before)) (c .before .before .before .before .before .before .hand-over .ensures) (c .before .before .before .before .before .before .before .before .before .before .before .before .before .before .before .before .answer-in .ensures .1)
+          (settled s (b .args .input .now) (buffers b) (accepted (c .before .before .before .before .before .before .before .before .before .before .before .before .before .before .before .before .before .before .before .before .before .before .before .before .before .before .before .before .before .before .before .before .before .before)) (long (c .before .before .before .before .before .before .before .before .before .before .before .before .before .before .before .before .before .before .before .before .before .before .before .before .before .before .before .before .before .before .before .before)) (state-lawful (c .before .before .before .before .before .before .before .before .before .before .before .before .before .before .before .before .before .before .before .before .before .before .before .before .before .before .before)) (sym (token-fault (c .before .before .before .before .before .before .before .before .before .before .before .before .before .before .before .before .before .before .before .before .before .before .before .before)) ∙ c .before .before .before .before .before .before .before .before .before .before .before .before .before .before .before .before .before .before .before .before .before .before .before .if4 .left) a refl (next-lawful sc a (sizes s .agents) n (omega arith) i));
     }
 
 pub call-spec : {M : Type 1} → statement M
@@ -237,8 +238,8 @@ call-spec =
     any-from-requires
     same-length-2
     returns-4
-    answer-in-requires
     clear-requires
+    answer-in-requires
     slice-aggregate-any-from-2
     any-from-requires-2
     same-length-3

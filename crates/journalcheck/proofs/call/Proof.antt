@@ -68,7 +68,7 @@ clear-requires : tie.Need-clear-requires
 clear-requires c κs = search needs
 
 check-list-requires : tie.Need-check-list-requires
-check-list-requires c κs = (sizes-are (c .before .before .before .before .before .before .before), (playable (c .before .before .before .before .before .before .before .before .before .before), form-is (c .before .before .before .before .before .before) ∙ c .before .before .before .before .enum-told2 .given .1))
+check-list-requires c κs = (sizes-are (c .before .before .before .before .before .before .before .before), (playable (c .before .before .before .before .before .before .before .before .before .before .before), (form-is (c .before .before .before .before .before .before .before) ∙ c .before .before .before .before .before .enum-told2 .given .1, c .before .before .before .clear .ensures ∙ ap (λ k. replicate k 0) (c .before .before .before .before .before .before .before .before .before .before .if2 .left))))
 
 returns-3 : tie.Need-returns-3
 returns-3 c =
@@ -85,11 +85,11 @@ same-length c = search needs
 
 returns-5 : tie.Need-returns-5
 returns-5 c =
-    let b = c .before .before .before .before .before .before .before .before .before .before .before .before .before .before .before .before .before in
+    let b = c .before .before .before .before .before .before .before .before .before .before .before .before .before .before .before .before .before .before .before .before in
     record {
       exits =
-          read (b .args .score .now) (b .args .journal .now) (b .args .scratch .now) (accepted (c .before .before .before .before .before .before .before .before .before .before .before)) (c .before .before .before .before .before .before .before .before .before .before .if2 .left) (form-is (c .before .before .before .before .before .before .before) ∙ c .before .before .before .before .before .enum-told2 .given .1)
-          (c .before .before .before .clear .ensures ∙ ap (λ k. replicate k 0) (c .before .before .before .before .before .before .before .before .before .before .if2 .left)) (c .check-list .ensures);
+          read (b .args .score .now) (b .args .journal .now) (b .args .scratch .now) (accepted (c .before .before .before .before .before .before .before .before .before .before .before .before .before .before)) (c .before .before .before .before .before .before .before .before .before .before .before .before .before .if2 .left) (form-is (c .before .before .before .before .before .before .before .before .before .before) ∙ c .before .before .before .before .before .before .before .before .enum-told2 .given .1)
+          (c .before .before .check-list .ensures .1) (c .before .before .check-list .ensures .0);
     }
 
 pub call-spec : {M : Type 1} → statement M

@@ -1,5 +1,5 @@
 -- `check_instant`: the instant that the words tell, held against them.
-use mathlib.Core.Path.{_≡_, refl}
+use mathlib.Core.Path.{_≡_, refl, sym, ap, _∙_}
 use mathlib.Core.Bool.{false}
 use Prim.Native.Nat.{ℕ, _≤_}
 use borrow.Author.Needs.{needs}
@@ -19,35 +19,40 @@ use Rattle.journalcheck.proofs.check_instant.Tie as tie
 out-long : (c : tie.After-step-from) → length (c .step-from .result .out) ≡ 256
 out-long c = search needs
 
-told-known : (c : tie.After-tokens-in) (t : ℕ) → sizes (c .before .before .before .args .score .now) .tokens ≤ t → getD (c .tokens-in .result) t false ≡ false
-told-known c = let b = c .before .before .before in from.told-known (sizes (b .args .score .now) .tokens) (sizes-few (b .args .score .now) .0) (c .tokens-in .ensures) (b .pre .1 .1 .1 .inputs)
+told-known : (c : tie.After-tokens-in) (t : ℕ) → sizes (c .before .before .before .before .args .score .now) .tokens ≤ t → getD (c .tokens-in .result) t false ≡ false
+told-known c = let b = c .before .before .before .before in from.told-known (sizes (b .args .score .now) .tokens) (sizes-few (b .args .score .now) .0) (c .tokens-in .ensures) (b .pre .1 .1 .1 .0 .inputs)
 
 tokens-in-requires : tie.Need-tokens-in-requires
 tokens-in-requires c κs = search needs
 
 step-from-requires : tie.Need-step-from-requires
 step-from-requires c κs =
-    let b = c .before .before .before in
-    (b .pre .0, (b .pre .1 .0, (b .pre .1 .1 .0, told-known c)))
+    let b = c .before .before .before .before .before in
+    (b .pre .0, (b .pre .1 .0, (b .pre .1 .1 .0, (told-known (c .before), b .pre .1 .1 .1 .1))))
 
 slice-aggregate-differs-from : tie.Need-slice-aggregate-differs-from
 slice-aggregate-differs-from c = search needs
 
 differs-from-requires : tie.Need-differs-from-requires
 differs-from-requires c κs =
-    let b = c .before .before .before .before .before .before .before in
-    let step = c .before .before .before in
+    let b = c .before .before .before .before .before .before .before .before .before .before .before in
+    let step = c .before .before .before .before .before in
     let s = b .args .score .now in
-    (formed-wide (sizes s .tokens) (sizes-few s .0) (b .pre .1 .1 .1), (status-few s (b .pre .1 .0) (stateIn (b .args .standing)) (setOf (step .before .tokens-in .result)) (step .step-from .ensures), out-long step))
+    (formed-wide (sizes s .tokens) (sizes-few s .0) (b .pre .1 .1 .1 .0), (status-few s (b .pre .1 .0) (stateIn (b .args .standing)) (setOf (step .before .before .tokens-in .result)) (step .step-from .ensures .0), out-long step))
+
+same-length : tie.Need-same-length
+same-length c = ap length (c .before .before .before .before .before .before .step-from .ensures .1 ∙ sym (c .before .before .before .before .before .before .before .before .before .before .before .before .pre .1 .1 .1 .1))
 
 returns : tie.Need-returns
 returns c =
-    let b = c .before .before .before .before .before .before .before .before in
-    let told = c .before .before .before .before .before .tokens-in in
-    let step = c .before .before .before .before .step-from in
-    let s = b .args .score .now in
-    held s (b .pre .1 .0) (stateIn (b .args .standing)) (words (b .args .here .now)) (told .result) (told-set (sizes s .tokens) (sizes-few s .0) (told .ensures) (b .pre .1 .1 .1 .inputs))
-    (step .result) (step .ensures) _ refl (c .differs-from .ensures) refl
+    let b = c .before .before .before .before .before .before .before .before .before .before .before .before in
+    let told = c .before .before .before .before .before .before .before .before .tokens-in in
+    let step = c .before .before .before .before .before .before .step-from in
+    let s = b .args .score .now in (
+      held s (b .pre .1 .0) (stateIn (b .args .standing)) (words (b .args .here .now)) (told .result) (told-set (sizes s .tokens) (sizes-few s .0) (told .ensures) (b .pre .1 .1 .1 .0 .inputs))
+          (step .result) (step .ensures .0) _ refl (c .differs-from .ensures) refl,
+      step .ensures .1,
+    )
 
 pub check-instant-spec : {M : Type 1} → statement M
 check-instant-spec =
@@ -57,4 +62,5 @@ check-instant-spec =
     step-from-requires
     slice-aggregate-differs-from
     differs-from-requires
+    same-length
     returns)

@@ -1,60 +1,71 @@
 -- `check_list`: an instant read at each turn.
+use mathlib.Core.Path.{_≡_, sym, ap, _∙_}
 use Prim.Native.Nat.{_-_}
 use borrow.Author.Needs.{needs}
 use native.Mathlib.Omega.{arith}
 use lib.ListN.{length}
+use Rattle.lent.specs.Lengths.{noScratch}
 use Rattle.journalcheck.proofs.Checks.{Checking, checking-none, checking-end, Turn, next, first-formed, checking-unlawful, checking-differs, checking-more}
 use Rattle.journalcheck.proofs.check_list.Statement.{statement}
 use Rattle.journalcheck.proofs.check_list.Tie as tie
 
 abbrev Inv-loop : tie.InvT-loop
-Inv-loop score head journal stands₀ instants₀ at₀ stands instants at = Checking score journal stands instants at
+Inv-loop score head journal scratch₀ stands₀ instants₀ at₀ scratch stands instants at = Checking score journal stands instants at × (scratch ≡ noScratch)
 
 abbrev μ-loop : tie.MeasureT-loop
-μ-loop score head journal stands₀ instants₀ at₀ stands instants at = length journal - at
+μ-loop score head journal scratch₀ stands₀ instants₀ at₀ scratch stands instants at = length journal - at
 
-turn : (c : tie.After-part Inv-loop μ-loop) → let b = c .before .before .before .before .before .before in
+turn : (c : tie.After-part Inv-loop μ-loop) → let b = c .before .before .before .before .before .before .before in
     Turn (b .args .score .now) (b .args .journal .now) (c .before .before .loop .stands) (c .before .before .loop .instants) (c .before .before .loop .at) (c .part .result .now)
-turn c = record { checking = c .before .before .loop .inv; not-end = c .before .loop-test .taken; is = c .part .ensures }
+turn c = record { checking = c .before .before .loop .inv .0; not-end = c .before .loop-test .taken; is = c .part .ensures }
 
 start-requires : tie.Need-start-requires Inv-loop μ-loop
 start-requires c κs = search needs
 
 loop-holds : tie.Need-loop-holds Inv-loop μ-loop
 loop-holds c =
-    let b = c .before .before .before in
-    checking-none (b .args .score .now) (b .args .journal .now) (c .start .result) (b .pre .1 .0) (b .pre .1 .1) (λ i. omega (arith, c .before .shared-slice-known2 .given i)) (c .start .ensures)
+    let b = c .before .before .before .before in
+    (checking-none (b .args .score .now) (b .args .journal .now) (c .start .result) (b .pre .1 .0) (b .pre .1 .1 .0) (λ i. omega (arith, c .before .before .shared-slice-known2 .given i)) (c .start .ensures), b .pre .1 .1 .1)
 
 part-requires : tie.Need-part-requires Inv-loop μ-loop
 part-requires c κs = search needs
 
 check-instant-requires : tie.Need-check-instant-requires Inv-loop μ-loop
 check-instant-requires c κs =
-    let b = c .before .before .before .before .before .before in
-    (b .pre .0, (b .pre .1 .0, (c .before .before .loop .inv .lawful, first-formed (turn c))))
+    let b = c .before .before .before .before .before .before .before .before in
+    (b .pre .0, (b .pre .1 .0, (c .before .before .before .loop .inv .0 .lawful, (first-formed (turn (c .before)), c .before .before .before .loop .inv .1))))
+
+same-length : tie.Need-same-length Inv-loop μ-loop
+same-length c = ap length (c .before .before .before .check-instant .ensures .1 ∙ sym (c .before .before .before .before .before .before .before .before .before .before .before .before .pre .1 .1 .1))
 
 returns : tie.Need-returns Inv-loop μ-loop
-returns c = checking-unlawful (turn (c .before .before)) (c .before .check-instant .result) (c .before .check-instant .ensures) (c .if1 .taken)
+returns c = let h = c .before .before .before .check-instant in (checking-unlawful (turn (c .before .before .before .before .before)) (h .result) (h .ensures .0) (c .if1 .taken), h .ensures .1)
+
+same-length-2 : tie.Need-same-length-2 Inv-loop μ-loop
+same-length-2 c = ap length (c .before .before .before .before .check-instant .ensures .1 ∙ sym (c .before .before .before .before .before .before .before .before .before .before .before .before .before .pre .1 .1 .1))
 
 returns-2 : tie.Need-returns-2 Inv-loop μ-loop
-returns-2 c = checking-differs (turn (c .before .before .before)) (c .before .before .check-instant .result) (c .before .before .check-instant .ensures) (c .before .if1 .left) (c .if2 .taken)
+returns-2 c = let h = c .before .before .before .before .check-instant in (checking-differs (turn (c .before .before .before .before .before .before)) (h .result) (h .ensures .0) (c .before .if1 .left) (c .if2 .taken), h .ensures .1)
 
 add-instants : tie.Need-add-instants Inv-loop μ-loop
-add-instants c = let t = turn (c .before .before .before .before) in omega (arith, t .checking .counted, t .not-end)
+add-instants c = let t = turn (c .before .before .before .before .before .before .before) in omega (arith, t .checking .counted, t .not-end)
 
 add-at : tie.Need-add-at Inv-loop μ-loop
-add-at c = omega (arith, next (turn (c .before .before .before .before)) .fits)
+add-at c = omega (arith, next (turn (c .before .before .before .before .before .before .before)) .fits)
 
 loop-less : tie.Need-loop-less Inv-loop μ-loop
-loop-less c = let t = turn (c .before .before .before .before) in omega (arith, next t .some, t .not-end)
+loop-less c = let t = turn (c .before .before .before .before .before .before .before) in omega (arith, next t .some, t .not-end)
 
 loop-again : tie.Need-loop-again Inv-loop μ-loop
 loop-again c =
-    let h = c .before .before .before .check-instant in
-    checking-more (turn (c .before .before .before .before)) (h .result) (h .ensures) (c .before .before .if1 .left) (c .before .if2 .left)
+    let h = c .before .before .before .before .before .check-instant in
+    (checking-more (turn (c .before .before .before .before .before .before .before)) (h .result) (h .ensures .0) (c .before .before .if1 .left) (c .before .if2 .left), h .ensures .1)
+
+same-length-3 : tie.Need-same-length-3 Inv-loop μ-loop
+same-length-3 c = ap length (c .before .loop .inv .1 ∙ sym (c .before .before .before .before .before .before .pre .1 .1 .1))
 
 returns-3 : tie.Need-returns-3 Inv-loop μ-loop
-returns-3 c = checking-end (c .before .loop .inv) (c .loop-test .left)
+returns-3 c = (checking-end (c .before .loop .inv .0) (c .loop-test .left), c .before .loop .inv .1)
 
 pub check-list-spec : {M : Type 1} → statement M
 check-list-spec =
@@ -66,10 +77,13 @@ check-list-spec =
     loop-holds
     part-requires
     check-instant-requires
+    same-length
     returns
+    same-length-2
     returns-2
     add-instants
     add-at
     loop-less
     loop-again
+    same-length-3
     returns-3)

@@ -94,8 +94,8 @@ clear-requires c κs = search needs
 
 run-from-requires : tie.Need-run-from-requires
 run-from-requires c κs =
-    let l = right-lengths (buffers (c .before .before .before .before .before .before .before .before .before .before .before .before .before .before .before .before .before .before .before .before .before .before .before .before)) (long (c .before .before .before .before .before .before .before .before .before .before .before .before .before .before)) in
-    (sizes-are (c .before .before .before .before .before .before .before .before .before .before .before .before), (playable (c .before .before .before .before .before .before .before .before .before .before .before .before .before .before .before .before), (l .state-long, (lawful (c .before .before .before .before .before .before .before .before .before), sym (form-is (c .before .before .before .before .before .before .before .before)) ∙ c .before .before .before .before .before .before .enum-told2 .given .1))))
+    let l = right-lengths (buffers (c .before .before .before .before .before .before .before .before .before .before .before .before .before .before .before .before .before .before .before .before .before .before .before .before .before)) (long (c .before .before .before .before .before .before .before .before .before .before .before .before .before .before .before)) in
+    (sizes-are (c .before .before .before .before .before .before .before .before .before .before .before .before .before), (playable (c .before .before .before .before .before .before .before .before .before .before .before .before .before .before .before .before .before), (l .state-long, (lawful (c .before .before .before .before .before .before .before .before .before .before), (sym (form-is (c .before .before .before .before .before .before .before .before .before)) ∙ c .before .before .before .before .before .before .before .enum-told2 .given .1, c .before .before .before .before .before .clear .ensures ∙ ap (λ n. replicate n 0) (l .scratch-long))))))
 
 same-length-2 : tie.Need-same-length-2
 same-length-2 c = search needs
@@ -124,11 +124,11 @@ same-length-6 c = search needs
 
 returns-6 : tie.Need-returns-6
 returns-6 c =
-    let b = c .before .before .before .before .before .before .before .before .before .before .before .before .before .before .before .before .before .before .before .before .before .before .before .before .before .before .before .before .before in
+    let b = c .before .before .before .before .before .before .before .before .before .before .before .before .before .before .before .before .before .before .before .before .before .before .before .before .before .before .before .before .before .before .before .before in
     record {
       exits =
-          runs (b .args .score .now) (b .args .inputs .now) (buffers b) (accepted (c .before .before .before .before .before .before .before .before .before .before .before .before .before .before .before .before .before .before .before .before .before)) (long (c .before .before .before .before .before .before .before .before .before .before .before .before .before .before .before .before .before .before .before)) (lawful (c .before .before .before .before .before .before .before .before .before .before .before .before .before .before)) (sym (form-is (c .before .before .before .before .before .before .before .before .before .before .before .before .before)) ∙ c .before .before .before .before .before .before .before .before .before .before .before .enum-told2 .given .1) _ _ _ _
-          (c .before .before .before .before .before .before .before .before .before .clear .ensures ∙ ap (λ n. replicate n 0) (right-lengths (buffers b) (long (c .before .before .before .before .before .before .before .before .before .before .before .before .before .before .before .before .before .before .before)) .scratch-long)) (c .before .before .before .before .run-from .ensures);
+          runs (b .args .score .now) (b .args .inputs .now) (buffers b) (accepted (c .before .before .before .before .before .before .before .before .before .before .before .before .before .before .before .before .before .before .before .before .before .before .before .before)) (long (c .before .before .before .before .before .before .before .before .before .before .before .before .before .before .before .before .before .before .before .before .before .before)) (lawful (c .before .before .before .before .before .before .before .before .before .before .before .before .before .before .before .before .before)) (sym (form-is (c .before .before .before .before .before .before .before .before .before .before .before .before .before .before .before .before)) ∙ c .before .before .before .before .before .before .before .before .before .before .before .before .before .before .enum-told2 .given .1) _ _ _ _
+          (c .before .before .before .before .before .before .run-from .ensures .1) (c .before .before .before .before .before .before .run-from .ensures .0);
     }
 
 pub call-spec : {M : Type 1} → statement M

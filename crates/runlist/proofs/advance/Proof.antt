@@ -33,24 +33,24 @@ slice-aggregate-size-2 : tie.Need-slice-aggregate-size-2
 slice-aggregate-size-2 c = search needs
 
 -- what goes into the journal: no flag from T on
-flags-known : (c : tie.After-step-from) → let b = c .before .before .before in
+flags-known : (c : tie.After-step-from) → let b = c .before .before .before .before .before in
     (c .step-from .result .status < 4)
     × (((i : ℕ) → b .args .head .tokens ≤ i → getD (b .args .t4) i false ≡ false) × ((i : ℕ) → b .args .head .tokens ≤ i → getD (c .step-from .result .out) i false ≡ false))
 flags-known c =
-    let b = c .before .before .before in
+    let b = c .before .before .before .before .before in
     let s = b .args .score .now in
     let e = ap (λ h. h .tokens) (b .pre .0) in (
-      omega (arith, status-few s (b .pre .1 .0) (stateIn (b .args .standing)) (setOf (b .args .t4)) (c .step-from .ensures)),
+      omega (arith, status-few s (b .pre .1 .0) (stateIn (b .args .standing)) (setOf (b .args .t4)) (c .step-from .ensures .0)),
       (
-        λ i le. b .pre .1 .1 .1 i (omega arith),
-        λ i le. outputs-known s (b .pre .1 .0) (stateIn (b .args .standing)) (setOf (b .args .t4)) (c .step-from .ensures) i (omega arith),
+        λ i le. b .pre .1 .1 .1 .0 i (omega arith),
+        λ i le. outputs-known s (b .pre .1 .0) (stateIn (b .args .standing)) (setOf (b .args .t4)) (c .step-from .ensures .0) i (omega arith),
       ),
     )
 
 size-requires : tie.Need-size-requires
 size-requires c κs =
-    let b = c .before .before .before .before .before .before .before in
-    let step = c .before .before .before .before in
+    let b = c .before .before .before .before .before .before .before .before .before .before .before in
+    let step = c .before .before .before .before .before .before in
     (few b, (omega (arith, few b, told-long b), (omega (arith, few b, out-long step), flags-known step .1)))
 
 stop-by-requires : tie.Need-stop-by-requires
@@ -60,42 +60,52 @@ goes-on-requires : tie.Need-goes-on-requires
 goes-on-requires c κs = search needs
 
 -- the instant is written if its words fit
-fits : (c : tie.Then1) → c .before .before .before .size .result ≤ length (c .before .before .before .before .before .before .before .before .before .before .before .args .journal .now)
-fits c = not-stopped (c .before .before .before .before .before .before .before .before .step-from .result .unlawful) _ _ (ap goesOn (sym (c .before .before .stop-by .ensures)) ∙ sym (c .before .goes-on .ensures) ∙ c .if1 .taken)
+fits : (c : tie.Then1) → c .before .before .before .size .result ≤ length (c .before .before .before .before .before .before .before .before .before .before .before .before .before .before .before .args .journal .now)
+fits c = not-stopped (c .before .before .before .before .before .before .before .before .before .before .step-from .result .unlawful) _ _ (ap goesOn (sym (c .before .before .stop-by .ensures)) ∙ sym (c .before .goes-on .ensures) ∙ c .if1 .taken)
 
 slice-aggregate-write : tie.Need-slice-aggregate-write
-slice-aggregate-write c = search needs
+slice-aggregate-write c = let long = told-long (c .before .before .before .before .before .before .before .before .before .before .before .before .before .before .before .before .before) in search needs
 
 slice-aggregate-write-2 : tie.Need-slice-aggregate-write-2
 slice-aggregate-write-2 c = search needs
 
 write-requires : tie.Need-write-requires
 write-requires c κs =
-    let b = c .before .before .before .before .before .before .before .before .before .before .before .before .before .before in
-    let step = c .before .before .before .before .before .before .before .before .before .before .before in
+    let b = c .before .before .before .before .before .before .before .before .before .before .before .before .before .before .before .before .before .before in
+    let step = c .before .before .before .before .before .before .before .before .before .before .before .before .before in
     let k = flags-known step in
     (k .0, (few b, (omega (arith, few b, told-long b), (omega (arith, few b, out-long step), (k .1 .0, (k .1 .1, omega (arith, fits (c .before .before .before), c .before .before .before .before .before .before .size .ensures .0 (step .step-from .result .status))))))))
 
 same-length : tie.Need-same-length
 same-length c = search needs
 
+same-length-2 : tie.Need-same-length-2
+same-length-2 c = ap length (c .before .before .before .before .before .before .before .before .before .before .before .before .before .before .before .before .step-from .ensures .1 ∙ sym (c .before .before .before .before .before .before .before .before .before .before .before .before .before .before .before .before .before .before .before .before .before .pre .1 .1 .1 .1))
+
 returns : tie.Need-returns
 returns c =
-    let b = c .before .before .before .before .before .before .before .before .before .before .before .before .before .before .before .before .before in
-    let step = c .before .before .before .before .before .before .before .before .before .before .before .before .before .before .step-from in
-    took (b .args .score .now) (b .pre .1 .0) (stateIn (b .args .standing)) (setOf (b .args .t4)) (step .result) (step .ensures)
-    _ _ _ (c .before .before .before .before .before .before .before .before .before .size .ensures .0 (step .result .status)) (c .before .before .before .before .before .before .before .before .stop-by .ensures) refl
-    (λ q. c .before .before .write .ensures)
-    (λ n. absurd (n (goes-not _ (sym (c .before .before .before .before .before .before .before .goes-on .ensures) ∙ c .before .before .before .before .before .before .if1 .taken))))
+    let b = c .before .before .before .before .before .before .before .before .before .before .before .before .before .before .before .before .before .before .before .before .before in
+    let step = c .before .before .before .before .before .before .before .before .before .before .before .before .before .before .before .before .step-from in (
+      took (b .args .score .now) (b .pre .1 .0) (stateIn (b .args .standing)) (setOf (b .args .t4)) (step .result) (step .ensures .0)
+          _ _ _ (c .before .before .before .before .before .before .before .before .before .size .ensures .0 (step .result .status)) (c .before .before .before .before .before .before .before .before .stop-by .ensures) refl
+          (λ q. c .before .before .write .ensures)
+          (λ n. absurd (n (goes-not _ (sym (c .before .before .before .before .before .before .before .goes-on .ensures) ∙ c .before .before .before .before .before .before .if1 .taken)))),
+      step .ensures .1,
+    )
+
+same-length-3 : tie.Need-same-length-3
+same-length-3 c = ap length (c .before .before .before .before .before .before .before .before .before .before .step-from .ensures .1 ∙ sym (c .before .before .before .before .before .before .before .before .before .before .before .before .before .before .before .pre .1 .1 .1 .1))
 
 returns-2 : tie.Need-returns-2
 returns-2 c =
-    let b = c .before .before .before .before .before .before .before .before .before .before .before in
-    let step = c .before .before .before .before .before .before .before .before .step-from in
-    took (b .args .score .now) (b .pre .1 .0) (stateIn (b .args .standing)) (setOf (b .args .t4)) (step .result) (step .ensures)
-    _ _ _ (c .before .before .before .size .ensures .0 (step .result .status)) (c .before .before .stop-by .ensures) refl
-    (λ q. absurd (not-goes (sym (c .before .goes-on .ensures) ∙ c .if1 .left) q))
-    (λ n. refl)
+    let b = c .before .before .before .before .before .before .before .before .before .before .before .before .before .before .before in
+    let step = c .before .before .before .before .before .before .before .before .before .before .step-from in (
+      took (b .args .score .now) (b .pre .1 .0) (stateIn (b .args .standing)) (setOf (b .args .t4)) (step .result) (step .ensures .0)
+          _ _ _ (c .before .before .before .size .ensures .0 (step .result .status)) (c .before .before .stop-by .ensures) refl
+          (λ q. absurd (not-goes (sym (c .before .goes-on .ensures) ∙ c .if1 .left) q))
+          (λ n. refl),
+      step .ensures .1,
+    )
 
 pub advance-spec : {M : Type 1} → statement M
 advance-spec =
@@ -111,5 +121,7 @@ advance-spec =
     slice-aggregate-write-2
     write-requires
     same-length
+    same-length-2
     returns
+    same-length-3
     returns-2)

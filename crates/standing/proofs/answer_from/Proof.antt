@@ -4,7 +4,7 @@ use mathlib.Core.Bool.{Bool, true, false, cond}
 use mathlib.Core.List.{List}
 use Prim.Native.Nat.{ℕ}
 use borrow.Author.Needs.{needs}
-use lib.ListN.{replicate}
+use lib.ListN.{length, replicate}
 use Rattle.tcc.specs.Score.{Score}
 use Rattle.tcc.specs.Instant.{running, aborted, abortedAnswer, instant, answer}
 use Rattle.format.specs.Decode.{decode}
@@ -32,16 +32,19 @@ aborted-answer sc s inputs e = ap (λ b. answer sc (cond b (running (setOf (s .a
 play-requires : tie.Need-play-requires
 play-requires c κs = search needs
 
+same-length : tie.Need-same-length
+same-length c = ap length (c .before .before .play .ensures .1 ∙ sym (c .before .before .before .before .before .before .before .before .pre .1 .1))
+
 returns : tie.Need-returns
 returns c =
-    let b = c .before .before .before .before in
-    c .play .ensures ∙ sym (ap outcomeOf (running-answer (decode (b .args .score .now)) (b .args .standing) (setOf (b .args .inputs)) (c .before .if1 .taken)))
+    let b = c .before .before .before .before .before .before .before .before in
+    let played = c .before .before .play .ensures in
+    (played .0 ∙ sym (ap outcomeOf (running-answer (decode (b .args .score .now)) (b .args .standing) (setOf (b .args .inputs)) (c .before .before .before .before .if1 .taken))), played .1)
 
 returns-2 : tie.Need-returns-2
 returns-2 c =
-    let b = c .before .before .before in
-    none-outcome ∙ sym (ap outcomeOf (aborted-answer (decode (b .args .score .now)) (b .args .standing) (setOf (b .args .inputs)) (c .if1 .left)))
+    let b = c .before .before .before .before in
+    (none-outcome ∙ sym (ap outcomeOf (aborted-answer (decode (b .args .score .now)) (b .args .standing) (setOf (b .args .inputs)) (c .if1 .left))), b .pre .1 .1)
 
 pub answer-from-spec : {M : Type 1} → statement M
-answer-from-spec =
-    tie.close (tie.spec play-requires returns returns-2)
+answer-from-spec = tie.close (tie.spec play-requires same-length returns returns-2)
