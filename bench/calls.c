@@ -113,14 +113,34 @@ static void add_facts(struct tokens *told, const struct tokens *input, const str
         told->words[i] = input->words[i] | facts->words[i];
 }
 
-/* One instant: changes the state to the next one. */
+static void clear(uint8_t *scratch)
+{
+    memset(scratch, 0, SCORE_SCRATCH_BYTES);
+}
+
+/* The bits of a score's agents, eight bytes at a time. */
+static uint32_t count_reduced(const uint8_t *scratch, uint32_t agents)
+{
+    uint32_t count = 0, i;
+    for (i = 0; i < agents; i += 64) {
+        uint64_t word;
+        memcpy(&word, scratch + i / 8, sizeof word);
+        count += count_bits(word);
+    }
+    return count;
+}
+
+/* One instant: changes the state to the next one. The scratch is all zero before it and afterwards. */
 static void step(const struct engine *engine, const struct score *score, const struct index *index,
-                 struct state *state, const struct tokens *input, struct end *end)
+                 struct state *state, const struct tokens *input, uint8_t *scratch, struct end *end)
 {
     struct tokens told;
     add_facts(&told, input, &index->facts);
-    if (!state->aborted)
-        engine->instant(score, index, &state->agents, &told, end);
+    if (!state->aborted) {
+        engine->instant(score, index, &state->agents, &told, scratch, end);
+        end->count = count_reduced(scratch, score->agents);
+        clear(scratch);
+    }
     if (state->aborted || end->status == ABORTED) {
         memset(end, 0, sizeof *end);
         end->status = ABORTED;
@@ -151,12 +171,12 @@ uint64_t call_instant(const struct engine *engine, const uint8_t *score_bytes, s
     if (has_unknown_token(&input, &score))
         return refusal(LENT_INPUT);
     engine->prepare(&score, &index);
-    step(engine, &score, &index, &state, &input, &end);
+    clear(scratch);
+    step(engine, &score, &index, &state, &input, scratch, &end);
     output_of(&output, &score, &end.store);
     write_state(state_bytes, &state);
     write_map(store_bytes, &end.store);
     write_map(output_bytes, &output);
-    memset(scratch, 0, SCORE_SCRATCH_BYTES);
     return UINT64_C(1) << 61 | (uint64_t)end.status << 32 | (uint64_t)end.count << 34;
 }
 
@@ -238,7 +258,7 @@ static int write_instant(struct room *journal, const uint8_t *inputs, size_t inp
 
 /* Runs a list in its form: the instants written, and whether the journal was full. */
 static uint64_t run_list(const struct engine *engine, const struct score *score, struct state *state,
-                         const uint8_t *inputs, size_t words, struct room journal)
+                         const uint8_t *inputs, size_t words, struct room journal, uint8_t *scratch)
 {
     struct index index;
     struct tokens input, output;
@@ -249,7 +269,7 @@ static uint64_t run_list(const struct engine *engine, const struct score *score,
     while (at < words) {
         struct state next = *state;
         size_t behind = read_inputs(&input, inputs, words, at);
-        step(engine, score, &index, &next, &input, &end);
+        step(engine, score, &index, &next, &input, scratch, &end);
         output_of(&output, score, &end.store);
         if (!write_instant(&journal, inputs + 4 * at, 4 * (behind - at), end.status, &output))
             return KEPT_FULL | written;
@@ -280,9 +300,9 @@ uint64_t call_run(const struct engine *engine, const uint8_t *score_bytes, size_
         return answer;
     room.bytes = journal;
     room.left = journal_len;
-    answer = run_list(engine, &score, &state, inputs, inputs_len / 4, room);
+    clear(scratch);
+    answer = run_list(engine, &score, &state, inputs, inputs_len / 4, room, scratch);
     write_state(state_bytes, &state);
-    memset(scratch, 0, SCORE_SCRATCH_BYTES);
     return answer;
 }
 
@@ -307,7 +327,7 @@ static void start_state(struct state *state, const struct score *score)
 
 /* Compares a journal in its form with the run: the instants that are alike, and whether one is not. */
 static uint64_t compare_journal(const struct engine *engine, const struct score *score, const uint8_t *journal,
-                                size_t words)
+                                size_t words, uint8_t *scratch)
 {
     struct index index;
     struct state state;
@@ -320,7 +340,7 @@ static uint64_t compare_journal(const struct engine *engine, const struct score 
     while (at < words) {
         uint32_t status = word_at(journal, at) & 3;
         size_t outputs = read_inputs(&input, journal, words, at);
-        step(engine, score, &index, &state, &input, &end);
+        step(engine, score, &index, &state, &input, scratch, &end);
         output_of(&output, score, &end.store);
         at = match_outputs(journal, words, outputs, &output);
         if (status != end.status || at == 0)
@@ -343,7 +363,6 @@ uint64_t call_journal_check(const struct engine *engine, const uint8_t *score_by
     answer = kept_fault(journal, journal_len, ABORTED, score.tokens);
     if (answer)
         return answer;
-    answer = compare_journal(engine, &score, journal, journal_len / 4);
-    memset(scratch, 0, SCORE_SCRATCH_BYTES);
-    return answer;
+    clear(scratch);
+    return compare_journal(engine, &score, journal, journal_len / 4, scratch);
 }

@@ -43,11 +43,13 @@ struct index {
     uint8_t premises[RULES_MAX];
 };
 
-/* An instant is given the tokens that are in the store from its start: the inputs and the facts. */
+/* An instant is given the tokens that are in the store from its start, the inputs and the facts, and the lent scratch,
+ * all zero, in which it sets the bit of each agent that it reduces. The count is taken from these bits.
+ */
 struct engine {
     void (*prepare)(const struct score *score, struct index *index);
     void (*instant)(const struct score *score, const struct index *index, const struct agents *awake,
-                    const struct tokens *told, struct end *end);
+                    const struct tokens *told, uint8_t *reduced, struct end *end);
 };
 
 /* Of an accepted score, or draft. */
@@ -96,11 +98,26 @@ static inline void add_token(struct tokens *set, uint32_t token)
     set->words[token / 64] |= UINT64_C(1) << token % 64;
 }
 
+/* Agent i is bit i % 8 of byte i / 8. */
+static inline void set_reduced(uint8_t *reduced, uint32_t agent)
+{
+    reduced[agent / 8] |= (uint8_t)(1 << agent % 8);
+}
+
+/* How many bits are set: summed up in twos, fours and bytes; the product has the sum of the bytes at its top. */
+static inline uint32_t count_bits(uint64_t word)
+{
+    word -= word >> 1 & UINT64_C(0x5555555555555555);
+    word = (word & UINT64_C(0x3333333333333333)) + (word >> 2 & UINT64_C(0x3333333333333333));
+    word = (word + (word >> 4)) & UINT64_C(0x0F0F0F0F0F0F0F0F);
+    return (uint32_t)(word * UINT64_C(0x0101010101010101) >> 56);
+}
+
 static inline size_t count_tokens(const struct tokens *set)
 {
     size_t count = 0, i;
     for (i = 0; i < TOKENS_MAX / 64; i++)
-        count += (size_t)__builtin_popcountll(set->words[i]);
+        count += count_bits(set->words[i]);
     return count;
 }
 

@@ -11,6 +11,7 @@ struct work {
     const struct score *score;
     const struct index *index;
     struct end *end;
+    uint8_t *reduced;
     struct agents seen;
     uint16_t agents[AGENTS_MAX], kept[AGENTS_MAX];  /* agents to take up; every next and unless taken up */
     uint16_t first_when[TOKENS_MAX], next_when[AGENTS_MAX]; /* the whens that wait for each token */
@@ -90,7 +91,7 @@ static int take_up(struct work *work, uint32_t agent)
         break;
     default: work->kept[work->kept_len++] = (uint16_t)agent; return 1;
     }
-    work->end->count++;
+    set_reduced(work->reduced, agent);
     return 1;
 }
 
@@ -106,7 +107,7 @@ static void tell_whens(struct work *work, uint32_t token)
 {
     uint32_t agent;
     for (agent = work->first_when[token]; agent != NOBODY; agent = work->next_when[agent]) {
-        work->end->count++;
+        set_reduced(work->reduced, agent);
         wake(work, body_of(word_at(work->score->agent_words, agent)));
     }
     work->first_when[token] = NOBODY;
@@ -164,19 +165,20 @@ static void wake_kept(struct work *work)
     for (i = 0; i < work->kept_len; i++) {
         uint32_t word = word_at(work->score->agent_words, work->kept[i]);
         if (kind_of(word) == UNLESS && has_token(&work->end->store, awaited_by(word)))
-            work->end->count++;
+            set_reduced(work->reduced, work->kept[i]);
         else
             add_agent(&work->end->awake, body_of(word));
     }
 }
 
 static void instant(const struct score *score, const struct index *index, const struct agents *awake,
-                    const struct tokens *told, struct end *end)
+                    const struct tokens *told, uint8_t *reduced, struct end *end)
 {
     struct work work;
     work.score = score;
     work.index = index;
     work.end = end;
+    work.reduced = reduced;
     start(&work, awake, told);
     if (!work_off(&work)) {
         end->status = ABORTED;

@@ -46,9 +46,9 @@ static int is_abort(uint32_t word)
 }
 
 /* A pass over the agents, from the last, since bodies are lower: ABORTED at an abort, else whether one was reduced. */
-static int pass_agents(const struct score *score, struct flags *flags, uint32_t *count)
+static int pass_agents(const struct score *score, struct flags *flags)
 {
-    uint32_t agent = score->agents, before = *count;
+    uint32_t agent = score->agents, count = 0;
     while (agent-- > 0) {
         uint32_t word = word_at(score->agent_words, agent);
         if (!flags->awake[agent] || flags->reduced[agent] || !can_reduce(flags, word))
@@ -56,10 +56,10 @@ static int pass_agents(const struct score *score, struct flags *flags, uint32_t 
         if (is_abort(word))
             return ABORTED;
         flags->reduced[agent] = 1;
-        ++*count;
+        count++;
         reduce(score, flags, word);
     }
-    return *count > before;
+    return count > 0;
 }
 
 /* A pass over the rules: whether a token was added. The conclusion of a fact is in the store before. */
@@ -87,6 +87,20 @@ static void read_flags(struct flags *flags, const struct score *score, const str
         flags->store[i] = (uint8_t)has_token(told, i);
 }
 
+/* Eight flags as the bits of a byte. */
+static uint8_t bits_of(const uint8_t *flags)
+{
+    return (uint8_t)(flags[0] | flags[1] << 1 | flags[2] << 2 | flags[3] << 3 | flags[4] << 4 | flags[5] << 5
+                     | flags[6] << 6 | flags[7] << 7);
+}
+
+static void set_bits(uint8_t *scratch, const struct flags *flags, uint32_t agents)
+{
+    uint32_t agent;
+    for (agent = 0; agent < agents; agent += 8)
+        scratch[agent / 8] |= bits_of(flags->reduced + agent);
+}
+
 static void write_end(struct end *end, const struct score *score, const struct flags *flags)
 {
     uint32_t i;
@@ -102,7 +116,7 @@ static void write_end(struct end *end, const struct score *score, const struct f
 }
 
 static void instant(const struct score *score, const struct index *index, const struct agents *awake,
-                    const struct tokens *told, struct end *end)
+                    const struct tokens *told, uint8_t *scratch, struct end *end)
 {
     struct flags flags;
     int changed;
@@ -113,13 +127,13 @@ static void instant(const struct score *score, const struct index *index, const 
         changed = pass_rules(score, &flags);
         if (flags.store[0])
             memset(flags.store, 1, score->tokens);
-        changed |= pass_agents(score, &flags, &end->count);
-        if (changed & ABORTED) {
-            end->status = ABORTED;
-            return;
-        }
-    } while (changed);
-    write_end(end, score, &flags);
+        changed |= pass_agents(score, &flags);
+    } while (changed == 1);
+    set_bits(scratch, &flags, score->agents);
+    if (changed & ABORTED)
+        end->status = ABORTED;
+    else
+        write_end(end, score, &flags);
 }
 
 static const struct engine engine = {prepare, instant};

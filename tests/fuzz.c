@@ -56,8 +56,13 @@ struct lent {
     struct bytes of[BUFFERS];
 };
 
+/* Lengths of a scratch that meet SCORE_BUFFER: none, a byte or more less or more, and those about document 01's. */
+static const size_t scratch_lengths[] = {0, 64, 127, 129, 132, 136, 2047, 2048};
+enum { SCRATCH_LENGTHS = sizeof scratch_lengths / sizeof *scratch_lengths };
+
 static uint8_t *places[BUFFERS];
 static uint64_t random_state, met[FUNCTIONS][NUMBERS], facts_met, watches_met;
+static uint64_t scratch_lengths_met[FUNCTIONS][SCRATCH_LENGTHS];
 
 static void require(int holds, const char *broken)
 {
@@ -179,21 +184,61 @@ static unsigned changed_by(int function, uint32_t number)
     return number == SCORE_JOURNAL ? BIT(SCRATCH) : 0;
 }
 
-/* Makes a call twice, on buffers that lie otherwise, and holds it to what every call must keep. */
+/* Another content for a scratch, of the same length. */
+static void refill(struct bytes *scratch)
+{
+    static const uint8_t fillers[] = {0x00, 0x01, 0x80, 0xFF};
+    memset(scratch->at, fillers[below(sizeof fillers)], scratch->len);
+}
+
+/* Whether every length but that of the scratch is what it should be. */
+static int others_fit(unsigned used, const struct bytes *of)
+{
+    int i;
+    for (i = INPUT; i <= OUTPUT; i++)
+        if (used & BIT(i) && of[i].len != SCORE_MAP_BYTES)
+            return 0;
+    return !(used & BIT(STATE)) || of[STATE].len == SCORE_STATE_BYTES;
+}
+
+/* The scratch of a call that works in it has its length, and one that is refused for it alone has not. */
+static void require_scratch_length(int function, const struct bytes *of, uint32_t number)
+{
+    unsigned used = functions[function].lent;
+    int i, fits = of[SCRATCH].len == SCORE_SCRATCH_BYTES;
+    require(fits || !(changed_by(function, number) & BIT(SCRATCH)), "a scratch of another length is taken");
+    if (number != SCORE_BUFFER || !(used & BIT(SCRATCH)) || !others_fit(used, of))
+        return;
+    require(!fits, "a scratch of the right length is refused");
+    for (i = 0; i < SCRATCH_LENGTHS; i++)
+        scratch_lengths_met[function][i] += of[SCRATCH].len == scratch_lengths[i];
+}
+
+/* Makes a call twice, on buffers that lie otherwise and a scratch that holds something else, and holds it to what every
+ * call must keep.
+ */
 static uint64_t judged(int function, struct lent *lent)
 {
     static struct lent before, again;
+    static struct bytes refilled;
     unsigned ends = below(BIT(BUFFERS)), changed;
     uint64_t answer;
     uint32_t number;
     before = again = *lent;
+    refill(&again.of[SCRATCH]);
+    refilled = again.of[SCRATCH];
     answer = call(function, lent, ends);
     require(call(function, &again, ~ends) == answer, "the same call again answers something else");
-    require(!differing(lent, &again), "the same call again leaves other bytes");
     number = score_answer_number(answer);
     require(number < NUMBERS && functions[function].numbers & BIT(number), "a number that the call may not answer");
+    require_scratch_length(function, lent->of, number);
     changed = changed_by(function, number);
     require(!(differing(&before, lent) & ~changed), "a buffer was changed that stays as it was");
+    if (!(changed & BIT(SCRATCH))) {
+        require(same(&again.of[SCRATCH], &refilled), "a scratch was changed that stays as it was");
+        again.of[SCRATCH] = lent->of[SCRATCH];
+    }
+    require(!differing(lent, &again), "the same call again leaves other bytes");
     require(!(changed & BIT(SCRATCH)) || is_all(lent->of[SCRATCH].at, SCORE_SCRATCH_BYTES, 0), "scratch is not zero");
     met[function][number]++;
     return answer;
@@ -222,15 +267,17 @@ static uint64_t judged_instant(struct lent *lent)
 {
     static struct lent next;
     uint64_t answer = judged(INSTANT, lent), next_answer;
+    uint32_t status = score_answer_status(answer), count = score_answer_count(answer);
     if (score_answer_number(answer))
         return answer;
-    require(score_answer_status(answer) <= SCORE_ABORTED, "a status that there is not");
-    require(score_answer_count(answer) <= agents_of(&lent->of[SCORE]), "more agents were reduced than there are");
-    require_maps(lent->of, score_answer_status(answer));
+    require(status <= SCORE_ABORTED, "a status that there is not");
+    require(count <= agents_of(&lent->of[SCORE]), "more agents were reduced than there are");
+    require(status != SCORE_ABORTED || count == 0, "an aborted instant has a count");
+    require_maps(lent->of, status);
     next = *lent;
     next_answer = judged(INSTANT, &next);
     require(!score_answer_number(next_answer), "the state that an instant left is refused");
-    require(score_answer_status(answer) != SCORE_ABORTED || next_answer == answer, "an aborted score plays on");
+    require(status != SCORE_ABORTED || next_answer == answer, "an aborted score plays on");
     return answer;
 }
 
@@ -378,7 +425,7 @@ static void make(struct bytes *of, int from_start)
     make_list(&of[INPUTS], tokens_of(&of[SCORE]));
     make_random(&of[STORE], SCORE_MAP_BYTES);
     make_random(&of[OUTPUT], SCORE_MAP_BYTES);
-    make_random(&of[SCRATCH], SCORE_SCRATCH_BYTES);
+    make_random(&of[SCRATCH], one_in(12) ? scratch_lengths[below(SCRATCH_LENGTHS)] : SCORE_SCRATCH_BYTES);
     make_random(&of[JOURNAL], below(one_in(4) ? MOST : 200));
     make_random(&of[PLAIN], SCORE_MAX_BYTES);
 }
@@ -531,6 +578,20 @@ static void play_round(void)
     require_check(checked, judged(JOURNAL_CHECK, &lent));
 }
 
+/* Prints how often each length of a scratch was refused, by each function that is lent one. */
+static void report_scratch_lengths(uint64_t rounds)
+{
+    int function, i;
+    for (function = INSTANT; function <= JOURNAL_CHECK; function++) {
+        printf("%s, scratch refused:", functions[function].name);
+        for (i = 0; i < SCRATCH_LENGTHS; i++) {
+            printf(" %u bytes: %" PRIu64, (unsigned)scratch_lengths[i], scratch_lengths_met[function][i]);
+            require(scratch_lengths_met[function][i] || rounds < ROUNDS_THAT_MEET_ALL, ", which is never met");
+        }
+        printf("\n");
+    }
+}
+
 /* Prints how often each number, a fact and a watch were met. Over many rounds, each that may be answered must be. */
 static void report(uint64_t rounds)
 {
@@ -548,6 +609,7 @@ static void report(uint64_t rounds)
     printf("facts: %" PRIu64 ", drafts with watches: %" PRIu64, facts_met, watches_met);
     require((facts_met && watches_met) || rounds < ROUNDS_THAT_MEET_ALL, ", which is never met");
     printf("\n");
+    report_scratch_lengths(rounds);
 }
 
 static void play_rounds(uint64_t seed, uint64_t first, uint64_t rounds, uint64_t *round)

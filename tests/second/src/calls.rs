@@ -5,6 +5,7 @@ use crate::decoded::{Decoded, Token};
 use crate::engine::{self, End};
 use crate::lent::*;
 use crate::random::Random;
+use crate::scratch::Scratch;
 use crate::{draft, oracle, translate};
 
 #[derive(Clone)]
@@ -81,33 +82,36 @@ impl Lent for TranslateLent {
     }
 }
 
-/// What an instant brings about. Store and output are rising tokens.
+/// What an instant brings about. Store and output are rising tokens; the scratch is as it was before it was cleared.
 struct Instant {
     status: u32,
     count: u32,
     store: Vec<Token>,
     output: Vec<Token>,
     next: State,
+    scratch: Scratch,
 }
 
 fn instant(score: &Decoded, state: &State, inputs: &[Token], random: &mut Random) -> Instant {
-    let State::Running(agents) = state else { return aborted() };
+    let State::Running(agents) = state else { return aborted(Scratch::cleared()) };
     let agents: Vec<_> = agents.iter().copied().collect();
-    let end = engine::instant(score, &agents, inputs, random);
+    let order = engine::finished(score, &agents, inputs, random);
+    let (end, scratch) = (order.end(), order.scratch);
     let status = end.status();
-    let End::Quiet { store, awake, reduced } = end else { return aborted() };
+    let End::Quiet { store, awake, .. } = end else { return aborted(scratch) };
     let store: Vec<Token> = (0..score.tokens).filter(|&token| store[token]).collect();
     Instant {
         status,
-        count: reduced.len() as u32,
+        count: scratch.count(),
         output: store.iter().copied().filter(|token| score.ports.contains(token)).collect(),
         store,
         next: State::Running(awake.into_iter().collect()),
+        scratch,
     }
 }
 
-fn aborted() -> Instant {
-    Instant { status: 2, count: 0, store: vec![], output: vec![], next: State::Aborted }
+fn aborted(scratch: Scratch) -> Instant {
+    Instant { status: 2, count: 0, store: vec![], output: vec![], next: State::Aborted, scratch }
 }
 
 /// Whether a next state would meet number 9.
@@ -210,6 +214,18 @@ pub fn journal(score: &Decoded, list: &[Vec<Token>], random: &mut Random) -> Vec
         state = instant.next;
     }
     instants
+}
+
+/// The bits that each instant of a list from a state sets in the scratch, before they are cleared.
+pub fn bits_of_instants(score: &Decoded, state: &[u8], list: &[Vec<Token>], random: &mut Random) -> Vec<Vec<u8>> {
+    let mut state = State::read(score, state).expect("the state is lawful");
+    let mut bits = Vec::new();
+    for inputs in list {
+        let instant = instant(score, &state, inputs, random);
+        bits.push(instant.scratch.bytes());
+        state = instant.next;
+    }
+    bits
 }
 
 pub fn journal_check_call(lent: &JournalCheckLent, random: &mut Random) -> (Answer, JournalCheckLent) {

@@ -2,6 +2,7 @@
 
 use crate::decoded::{Agent, Decoded, Form, Rule, Token};
 use crate::random::Random;
+use crate::scratch::Scratch;
 use crate::weight::Weights;
 use std::collections::BTreeSet;
 
@@ -15,11 +16,12 @@ pub enum Copied {
 /// For each token whether the store holds it.
 pub type Store = Vec<bool>;
 
-/// How a finished order ends. Awake next are copies, in rising order.
+/// How a finished order ends. Awake next are copies, in rising order. The agents reduced are kept twice, as a set and
+/// as the bits of the scratch before they are cleared.
 #[derive(Clone, PartialEq, Eq, Hash, Debug)]
 pub enum End {
     Abort,
-    Quiet { store: Store, awake: Vec<Agent>, reduced: BTreeSet<Agent> },
+    Quiet { store: Store, awake: Vec<Agent>, reduced: BTreeSet<Agent>, scratch: Scratch },
 }
 
 impl End {
@@ -37,6 +39,7 @@ pub struct Order<'a> {
     pub copies: Vec<Copied>,
     pub store: Store,
     pub reduced: BTreeSet<Agent>,
+    pub scratch: Scratch,
     pub aborted: bool,
     pub steps: u64,
     /// Where copies are not kept: the agents that have been in the multiset.
@@ -73,6 +76,7 @@ impl Order<'_> {
             copies: agents.chain(inputs).collect(),
             store,
             reduced: BTreeSet::new(),
+            scratch: Scratch::cleared(),
             aborted: false,
             steps: 0,
             joined: None,
@@ -117,6 +121,7 @@ impl Order<'_> {
             Copied::Input(token) => self.tell(token),
             Copied::Agent(agent) => {
                 self.reduced.insert(agent);
+                self.scratch.mark(agent);
                 self.reduce_agent(self.score.agents[agent]);
             }
         }
@@ -155,11 +160,11 @@ impl Order<'_> {
         (0..count).map(|step| (first + step) % count).find(|&place| self.can_reduce(self.copies[place]))
     }
 
-    pub fn finish(&mut self, random: &mut Random) -> End {
+    fn finish(mut self, random: &mut Random) -> Self {
         while let Some(place) = self.pick(random) {
             self.reduce(place);
         }
-        self.end()
+        self
     }
 
     /// The end of an order that is finished.
@@ -169,7 +174,8 @@ impl Order<'_> {
         }
         let mut awake: Vec<Agent> = self.copies.iter().filter_map(|&copy| self.woken_by(copy)).collect();
         awake.sort_unstable();
-        End::Quiet { store: self.store.clone(), awake, reduced: self.reduced.clone() }
+        let (store, reduced, scratch) = (self.store.clone(), self.reduced.clone(), self.scratch.clone());
+        End::Quiet { store, awake, reduced, scratch }
     }
 
     fn woken_by(&self, copy: Copied) -> Option<Agent> {
@@ -186,18 +192,23 @@ impl Order<'_> {
 /// Heavier orders are followed without copies.
 pub const HEAVIEST_FOLLOWED: u64 = 5_000;
 
+/// A finished order of an instant, with random steps.
+pub fn finished<'a>(score: &'a Decoded, agents: &[Agent], inputs: &[Token], random: &mut Random) -> Order<'a> {
+    let weight = Weights::new(score).of_order(agents, inputs.len());
+    let order = Order::start(score, agents, inputs);
+    if weight > HEAVIEST_FOLLOWED {
+        return order.without_copies().finish(random);
+    }
+    let order = order.finish(random);
+    assert!(order.steps <= weight, "an order of {} steps has weight {weight}", order.steps);
+    order
+}
+
 /// The end of an instant, by a random order.
 pub fn instant(score: &Decoded, agents: &[Agent], inputs: &[Token], random: &mut Random) -> End {
-    let weight = Weights::new(score).of_order(agents, inputs.len());
-    if weight > HEAVIEST_FOLLOWED {
-        return instant_without_copies(score, agents, inputs, random);
-    }
-    let mut order = Order::start(score, agents, inputs);
-    let end = order.finish(random);
-    assert!(order.steps <= weight, "an order of {} steps has weight {weight}", order.steps);
-    end
+    finished(score, agents, inputs, random).end()
 }
 
 pub fn instant_without_copies(score: &Decoded, agents: &[Agent], inputs: &[Token], random: &mut Random) -> End {
-    Order::start(score, agents, inputs).without_copies().finish(random)
+    Order::start(score, agents, inputs).without_copies().finish(random).end()
 }

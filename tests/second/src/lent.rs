@@ -8,7 +8,7 @@ use std::ops::Range;
 
 pub const STATE_BYTES: usize = 132;
 pub const MAP_BYTES: usize = 32;
-pub const SCRATCH_BYTES: usize = 2048;
+pub const SCRATCH_BYTES: usize = 128;
 pub const PLAIN_BYTES: usize = 5384;
 
 pub const RUNNING: u32 = 0xF000_0000;

@@ -17,6 +17,7 @@ pub mod passes;
 pub mod random;
 pub mod sample;
 pub mod scenes;
+pub mod scratch;
 pub mod sequence;
 pub mod tests;
 pub mod translate;

@@ -20,3 +20,17 @@ pub fn replaced(score: &[u32], words: &[(usize, u32)]) -> Vec<u32> {
     }
     score
 }
+
+/// S with a fault for each number from 1 to 7, and the value that is answered with it.
+pub fn faulty() -> [(Vec<u32>, u32, u64); 7] {
+    let with = |at, word| replaced(&S, &[(at, word)]);
+    [
+        (vec![], 1, 0),
+        (with(0, 0), 2, 0),
+        (S[..7].to_vec(), 3, 0),
+        (with(2, S[8]), 4, 2),
+        (with(8, 0x2004_0200), 5, 8),
+        (with(7, 0x3000_0005), 6, 7),
+        (with(5, 0x6000_0801), 7, 0),
+    ]
+}

@@ -429,10 +429,26 @@ pub fn dirt(random: &mut Random, len: usize) -> Vec<u8> {
     }
 }
 
+/// Lengths of a scratch that meet number 8: none, one byte less, one byte more, and the length that document 01 had.
+pub const OTHER_SCRATCH_LENGTHS: [usize; 4] = [0, 127, 129, 2048];
+
+/// These, and others that could be taken for right: half the length, a word or two more, a byte less than document 01.
+pub fn wrong_scratch_lengths() -> impl Iterator<Item = usize> {
+    OTHER_SCRATCH_LENGTHS.into_iter().chain([1, 64, 132, 136, 2047])
+}
+
+/// A length of a scratch: in turn each of the four, the right one, and any other.
+pub fn scratch_length(random: &mut Random, index: u64) -> usize {
+    let in_turn = [&OTHER_SCRATCH_LENGTHS[..], &[SCRATCH_BYTES]].concat();
+    let others = [1, 8, 32, 64, 120, 124, 126, 130, 132, 136, 256, 1024, 1920, 2044, 2047, 2049, 2176, 4096];
+    let turn = index as usize % (in_turn.len() + 1);
+    in_turn.get(turn).copied().unwrap_or_else(|| random.pick(&others))
+}
+
 /// A length that is not the one it should be.
 fn another_length(random: &mut Random, length: usize) -> usize {
     let near = [length.saturating_sub(1), length + 1, length.saturating_sub(4), length + 4, 2 * length, length / 2];
-    let far = [0, 1, MAP_BYTES, STATE_BYTES, SCRATCH_BYTES];
+    let far = [&[1, MAP_BYTES, STATE_BYTES, SCRATCH_BYTES], &OTHER_SCRATCH_LENGTHS[..]].concat();
     let other = if random.one_in(2) { random.pick(&near) } else { random.pick(&far) };
     if other == length {
         length + 2

@@ -34,22 +34,22 @@ pub fn all() -> Vec<Case> {
 }
 
 /// What one instant must bring about.
-struct Wanted {
+pub struct Wanted {
     status: u32,
     count: u32,
     store: Vec<usize>,
     awake: Vec<usize>,
 }
 
-fn quiet(count: u32, store: &[usize], awake: &[usize]) -> Wanted {
+pub fn quiet(count: u32, store: &[usize], awake: &[usize]) -> Wanted {
     Wanted { status: u32::from(store.contains(&0)), count, store: store.to_vec(), awake: awake.to_vec() }
 }
 
-fn aborted() -> Wanted {
+pub fn aborted() -> Wanted {
     Wanted { status: 2, count: 0, store: vec![], awake: vec![] }
 }
 
-fn lent(score: &[u32], state: Vec<u8>, inputs: &[usize]) -> InstantLent {
+pub fn lent(score: &[u32], state: Vec<u8>, inputs: &[usize]) -> InstantLent {
     InstantLent {
         score: to_bytes(score),
         state,
@@ -89,19 +89,23 @@ fn both(met: &mut Met, lent: &InstantLent, expected: (Answer, InstantLent)) -> O
     Ok(())
 }
 
+/// The buffers after an instant that is held to what it must bring about.
+pub fn brings_about(met: &mut Met, lent: &InstantLent, wanted: &Wanted) -> Result<InstantLent, String> {
+    let after = after(lent, wanted);
+    both(met, lent, (Answer::Instant { status: wanted.status, count: wanted.count }, after.clone()))?;
+    Ok(after)
+}
+
 /// Instants one after the other on one state: the inputs of each, and what it must bring about.
-fn in_turn(met: &mut Met, score: &[u32], awake: &[usize], instants: &[(&[usize], Wanted)]) -> Outcome {
+pub fn in_turn(met: &mut Met, score: &[u32], awake: &[usize], instants: &[(&[usize], Wanted)]) -> Outcome {
     let mut state = state_bytes(RUNNING, awake.iter().copied());
     for (inputs, wanted) in instants {
-        let lent = lent(score, state, inputs);
-        let after = after(&lent, wanted);
-        state = after.state.clone();
-        both(met, &lent, (Answer::Instant { status: wanted.status, count: wanted.count }, after))?;
+        state = brings_about(met, &lent(score, state, inputs), wanted)?.state;
     }
     Ok(())
 }
 
-fn turned_down(met: &mut Met, lent: InstantLent, number: u32, value: u64) -> Outcome {
+pub fn turned_down(met: &mut Met, lent: InstantLent, number: u32, value: u64) -> Outcome {
     both(met, &lent, (refused(number, value), lent.clone()))
 }
 
@@ -182,7 +186,7 @@ fn other_length(met: &mut Met, which: usize, length: impl Fn(usize) -> usize) ->
 }
 
 /// A score of one procedure, whose root is the last agent, with all tokens at the ports.
-fn score(tokens: u32, agents: &[u32], rules: &[u32]) -> Vec<u32> {
+pub fn score(tokens: u32, agents: &[u32], rules: &[u32]) -> Vec<u32> {
     let score = Score {
         tokens,
         ports: ports(0, tokens - 1),
@@ -384,9 +388,14 @@ fn facts_and_aborts() -> Vec<Case> {
 }
 
 /// Agents 1 to 1,023 are parallels of the one before with itself.
-fn ladder() -> Vec<u32> {
+pub fn ladder() -> Vec<u32> {
+    ladder_on(tell(1))
+}
+
+/// The same, with agent 0.
+pub fn ladder_on(lowest: u32) -> Vec<u32> {
     let steps = (0..1023).map(|below| parallel(below, below));
-    score(2, &[tell(1)].into_iter().chain(steps).collect::<Vec<_>>(), &[])
+    score(2, &[lowest].into_iter().chain(steps).collect::<Vec<_>>(), &[])
 }
 
 fn sharing() -> Vec<Case> {

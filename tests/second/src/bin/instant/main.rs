@@ -3,6 +3,7 @@
 mod cases;
 mod library;
 mod overlap;
+mod scratch_cases;
 mod trials;
 
 use second::tests::{self, Category, Tests, Trial};
@@ -28,14 +29,19 @@ const CATEGORIES: &[Category<Trial>] = &[
     ("scores of the score check", 12_000, trials::checked_scores),
     ("several faults", 10_000, trials::several_faults),
     ("long chains of rules", 1_500, trials::long_chains),
+    ("scratches of every length", 7_200, trials::scratch_lengths),
+    ("scratches that hold the bits of the instant before", 4_000, trials::old_bits),
 ];
 
 fn test(tests: &mut Tests) {
     tests.cases(cases::all());
+    tests.cases(scratch_cases::all());
     tests.categories(CATEGORIES, |trial, met, random, index| trial(met, random, index));
     tests.require_numbers("instant", 0..=10);
     tests.require_facts("instant");
     tests.require_statuses();
+    tests.require_scratch_lengths("instant");
+    trials::OLD_BITS.iter().for_each(|what| tests.require_noted(what));
 }
 
 fn main() -> ExitCode {

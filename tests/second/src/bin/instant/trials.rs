@@ -2,7 +2,7 @@
 
 use crate::{library, overlap};
 use second::answer::{same, Answer};
-use second::calls::{instant_call, InstantLent};
+use second::calls::{bits_of_instants, instant_call, InstantLent};
 use second::decoded::Decoded;
 use second::engine::{self, End};
 use second::guarded::{guards, GUARDS};
@@ -14,14 +14,19 @@ use second::{chains, every_order, lawful, scenes, words};
 use std::collections::HashSet;
 
 /// Holds the library to the second engine, between three kinds of guards.
-pub fn judge(met: &mut Met, lent: &InstantLent, random: &mut Random, offset: usize) -> Result<InstantLent, String> {
+fn judge(
+    met: &mut Met,
+    lent: &InstantLent,
+    random: &mut Random,
+    offset: usize,
+) -> Result<(Answer, InstantLent), String> {
     let expected = instant_call(lent, random);
     for guard in guards(random) {
         let got = library::instant(lent, offset, guard)?;
         met.count("instant", &lent.score, got.0);
         same_call(&expected, &got).map_err(|difference| format!("{difference}{}", shown(lent)))?;
     }
-    Ok(expected.1)
+    Ok(expected)
 }
 
 fn judge_at_any_offset(met: &mut Met, lent: &InstantLent, random: &mut Random) -> Outcome {
@@ -71,6 +76,54 @@ pub fn other_lengths(met: &mut Met, random: &mut Random, _: u64) -> Outcome {
         resize_one(random, &mut lent);
     }
     judge_at_any_offset(met, &lent, random)
+}
+
+/// A scratch of any length, the right one among them. With another one the rest is at times wrong besides.
+pub fn scratch_lengths(met: &mut Met, random: &mut Random, index: u64) -> Outcome {
+    let score = scenes::small_score(random);
+    let mut lent = lawful::instant(random, score);
+    let length = scenes::scratch_length(random, index);
+    lent.scratch = scenes::dirt(random, length);
+    if length != SCRATCH_BYTES && random.one_in(2) {
+        let decoded = Decoded::new(&lent.score);
+        lent.state = scenes::unlawful_state(random, &decoded);
+        lent.input = scenes::unlawful_input(random, &decoded);
+    }
+    let offset = random.below(8) as usize;
+    let (answer, _) = judge(met, &lent, random, offset)?;
+    met.count_scratch("instant", length, answer)
+}
+
+/// What must be met among instants whose scratch holds bits of others.
+pub const OLD_BITS: [&str; 2] = ["old bits of agents not reduced again", "old bits of agents reduced again"];
+
+fn note_old_bits(met: &mut Met, old: &[u8], new: &[u8]) {
+    let some = |bit: fn(u8, u8) -> u8| old.iter().zip(new).any(|(&old, &new)| bit(old, new) != 0);
+    if some(|old, new| old & !new) {
+        met.note(OLD_BITS[0]);
+    }
+    if some(|old, new| old & new) {
+        met.note(OLD_BITS[1]);
+    }
+}
+
+/// Instants on one state. The scratch of each holds the bits that the one before set, as if they had not been cleared;
+/// that of the first holds its own.
+pub fn old_bits(met: &mut Met, random: &mut Random, _: u64) -> Outcome {
+    let score = scenes::score(random);
+    let decoded = Decoded::new(&score);
+    let mut lent = running(random, &score, &decoded);
+    let mut old = None;
+    for _ in 0..random.between(2, 6) {
+        let inputs = map_tokens(&lent.input);
+        let bits = bits_of_instants(&decoded, &lent.state, &[inputs], random).concat();
+        lent.scratch = old.unwrap_or_else(|| bits.clone());
+        note_old_bits(met, &lent.scratch, &bits);
+        let (_, after) = judge(met, &lent, random, 0)?;
+        lent = InstantLent { state: after.state, ..lawful::instant(random, score.clone()) };
+        old = Some(bits);
+    }
+    Ok(())
 }
 
 /// Wrong states, beside lawful and unlawful inputs.
@@ -238,7 +291,7 @@ pub fn sequences(met: &mut Met, random: &mut Random, _: u64) -> Outcome {
         }
         let inputs = map_tokens(&lent.input);
         let end = sequence.instant(&inputs, random);
-        let after = judge(met, &lent, random, 0)?;
+        let (_, after) = judge(met, &lent, random, 0)?;
         same_end(&sequence, &end, &after).map_err(|difference| format!("{difference}{}", shown(&lent)))?;
         state = after.state;
     }
@@ -250,7 +303,7 @@ fn refused_between(met: &mut Met, random: &mut Random, lent: &InstantLent) -> Ou
     let mut refused = lent.clone();
     let scratch = random.below(SCRATCH_BYTES as u32);
     refused.scratch.truncate(scratch as usize);
-    let after = judge(met, &refused, random, 0)?;
+    let (_, after) = judge(met, &refused, random, 0)?;
     ensure(after.state == lent.state, "a refused call changed the state")
 }
 
@@ -277,7 +330,7 @@ pub fn every_order(met: &mut Met, random: &mut Random, _: u64) -> Outcome {
             break (lent, ends);
         }
     };
-    let after = judge(met, &lent, random, 0)?;
+    let (_, after) = judge(met, &lent, random, 0)?;
     let mut ends = ends.into_iter();
     let (Some(end), None) = (ends.next(), ends.next()) else {
         return Err(format!("orders end differently, or never{}", shown(&lent)));
@@ -314,7 +367,7 @@ pub fn with_and_without_copies(met: &mut Met, random: &mut Random, _: u64) -> Ou
     let score = scenes::score(random);
     let decoded = Decoded::new(&score);
     let lent = running(random, &score, &decoded);
-    let after = judge(met, &lent, random, 0)?;
+    let (_, after) = judge(met, &lent, random, 0)?;
     let Some(State::Running(awake)) = State::read(&decoded, &lent.state) else { return Ok(()) };
     let awake: Vec<_> = awake.into_iter().collect();
     let inputs = map_tokens(&lent.input);

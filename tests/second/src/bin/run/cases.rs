@@ -22,7 +22,7 @@ pub fn all() -> Vec<Case> {
 
 const INPUTS: [&[usize]; 3] = [&[1], &[], &[1, 3]];
 
-const JOURNAL: [u32; 9] = [
+pub const JOURNAL: [u32; 9] = [
     0xC000_0000,
     0xD000_0001,
     0xE000_0002,
@@ -34,14 +34,14 @@ const JOURNAL: [u32; 9] = [
     0xE000_0003,
 ];
 
-fn inputs() -> Vec<u32> {
+pub fn inputs() -> Vec<u32> {
     let list: Vec<Vec<usize>> = INPUTS.iter().map(|inputs| inputs.to_vec()).collect();
     second::oracle::words(&list_bytes(&list))
 }
 
 const OLD: u8 = 0xA5;
 
-fn lent(score: &[u32], state: Vec<u8>, inputs: &[u32], room: usize) -> RunLent {
+pub fn lent(score: &[u32], state: Vec<u8>, inputs: &[u32], room: usize) -> RunLent {
     RunLent {
         score: to_bytes(score),
         state,
@@ -51,12 +51,12 @@ fn lent(score: &[u32], state: Vec<u8>, inputs: &[u32], room: usize) -> RunLent {
     }
 }
 
-fn start() -> Vec<u8> {
+pub fn start() -> Vec<u8> {
     state_bytes(RUNNING, [4])
 }
 
 /// Eight times, at random offsets; then the answer and the buffers written are held to what is wanted.
-fn run(met: &mut Met, lent: &RunLent, wanted: Answer, journal: &[u32], state: &[u8]) -> Outcome {
+pub fn run(met: &mut Met, lent: &RunLent, wanted: Answer, journal: &[u32], state: &[u8]) -> Outcome {
     let mut expected = to_bytes(journal);
     expected.resize(lent.journal.len(), OLD);
     for index in 0..8 {
@@ -140,7 +140,12 @@ fn aborted() -> Vec<Case> {
 }
 
 fn check(met: &mut Met, score: &[u32], journal: Vec<u8>, wanted: Answer) -> Outcome {
-    let lent = JournalCheckLent { score: to_bytes(score), journal, scratch: vec![OLD; SCRATCH_BYTES] };
+    check_on(met, score, journal, vec![OLD; SCRATCH_BYTES], wanted)
+}
+
+/// With a scratch that holds these bytes.
+pub fn check_on(met: &mut Met, score: &[u32], journal: Vec<u8>, scratch: Vec<u8>, wanted: Answer) -> Outcome {
+    let lent = JournalCheckLent { score: to_bytes(score), journal, scratch };
     for index in 0..8 {
         let answer = judge::journal_check(met, &mut Random::new(0, index), &lent)?;
         known(answer, answer == wanted)?;

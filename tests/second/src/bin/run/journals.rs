@@ -3,7 +3,7 @@
 use crate::judge::{self, known};
 use crate::runs::{damage_words, written};
 use second::answer::{refused, Answer};
-use second::calls::{journal, JournalCheckLent};
+use second::calls::{bits_of_instants, journal, JournalCheckLent};
 use second::decoded::Decoded;
 use second::lent::*;
 use second::random::Random;
@@ -224,6 +224,31 @@ pub fn several_faults(met: &mut Met, random: &mut Random, _: u64) -> Outcome {
         scenes::damage_score(random, &mut lent.score);
     }
     judge::journal_check(met, random, &lent).map(|_| ())
+}
+
+/// A scratch of any length, the right one among them. With another one the journal is at times wrong besides.
+pub fn with_scratch_lengths(met: &mut Met, random: &mut Random, index: u64) -> Outcome {
+    let mut lent = of_small_run(random, 3);
+    let length = scenes::scratch_length(random, index);
+    lent.scratch = scenes::dirt(random, length);
+    if length != SCRATCH_BYTES && random.one_in(2) {
+        lent.journal = scenes::dirt(random, 9);
+    }
+    let answer = judge::journal_check(met, random, &lent)?;
+    met.count_scratch("journal check", length, answer)
+}
+
+/// The scratch holds the bits that one of the journal's instants sets, as if they had not been cleared.
+pub fn on_old_bits(met: &mut Met, random: &mut Random, _: u64) -> Outcome {
+    let score = scenes::score(random);
+    let mut lent = of_run(random, score, 6);
+    let decoded = Decoded::new(&lent.score);
+    let list = inputs(&lent.journal);
+    let bits = bits_of_instants(&decoded, &State::start(&decoded).bytes(), &list, random);
+    if !bits.is_empty() {
+        lent.scratch = bits[random.below(bits.len() as u32) as usize].clone();
+    }
+    check_to_end(met, random, &lent)
 }
 
 /// Scores of the score check's generators, with circles and damage of every kind.

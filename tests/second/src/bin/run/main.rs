@@ -10,6 +10,7 @@ mod journals;
 mod judge;
 mod library;
 mod runs;
+mod scratch_cases;
 mod short;
 
 use second::tests::{self, Category, Tests, Trial};
@@ -49,16 +50,23 @@ const CATEGORIES: &[Category<Trial>] = &[
     ("a fact added of what is always in the store", 4_000, added_fact::changes_nothing),
     ("runs of long chains of rules", 500, runs::of_long_chains),
     ("journals of long chains of rules", 500, journals::of_long_chains),
+    ("runs with scratches of every length", 7_200, runs::with_scratch_lengths),
+    ("journals with scratches of every length", 7_200, journals::with_scratch_lengths),
+    ("runs on the bits of an instant", 3_000, runs::on_old_bits),
+    ("journals on the bits of an instant", 3_000, journals::on_old_bits),
 ];
 
 fn test(tests: &mut Tests) {
     tests.cases(cases::all());
+    tests.cases(scratch_cases::all());
     tests.categories(CATEGORIES, |trial, met, random, index| trial(met, random, index));
     tests.require_numbers("run", (0..=9).chain([12, 13, 15]));
     tests.require_numbers("journal check", (0..=8).chain(12..=14));
     tests.require_facts("run");
     tests.require_facts("journal check");
     tests.require_facts_added();
+    tests.require_scratch_lengths("run");
+    tests.require_scratch_lengths("journal check");
 }
 
 fn main() -> ExitCode {

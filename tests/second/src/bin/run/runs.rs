@@ -2,7 +2,7 @@
 
 use crate::judge::{self, known};
 use second::answer::{refused, Answer};
-use second::calls::RunLent;
+use second::calls::{bits_of_instants, RunLent};
 use second::decoded::Decoded;
 use second::lent::*;
 use second::random::Random;
@@ -161,6 +161,30 @@ pub fn several_faults(met: &mut Met, random: &mut Random, _: u64) -> Outcome {
         lent.journal.truncate(random.below(20) as usize);
     }
     judge::run(met, random, &lent).map(|_| ())
+}
+
+/// A scratch of any length, the right one among them. With another one the rest is at times wrong besides.
+pub fn with_scratch_lengths(met: &mut Met, random: &mut Random, index: u64) -> Outcome {
+    let mut lent = small_lawful(random, 3);
+    let length = scenes::scratch_length(random, index);
+    lent.scratch = scenes::dirt(random, length);
+    if length != SCRATCH_BYTES && random.one_in(2) {
+        lent.state = scenes::unlawful_state(random, &Decoded::new(&lent.score));
+        lent.inputs = scenes::dirt(random, 9);
+    }
+    let (answer, _) = judge::run(met, random, &lent)?;
+    met.count_scratch("run", length, answer)
+}
+
+/// The scratch holds the bits that one of the run's instants sets, as if they had not been cleared.
+pub fn on_old_bits(met: &mut Met, random: &mut Random, _: u64) -> Outcome {
+    let mut lent = any_lawful(random, 6);
+    let list = inputs(&lent.inputs);
+    let bits = bits_of_instants(&Decoded::new(&lent.score), &lent.state, &list, random);
+    if !bits.is_empty() {
+        lent.scratch = bits[random.below(bits.len() as u32) as usize].clone();
+    }
+    run_to_end(met, random, &lent)
 }
 
 /// Scores of the score check's generators, with circles and damage of every kind.
