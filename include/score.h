@@ -64,7 +64,8 @@ extern "C" {
 
 /* An input list has, for each instant, SCORE_INSTANT_WORD, then SCORE_INPUT_WORD | token for each input token, rising
  * strictly. A journal has, for each instant, SCORE_INSTANT_WORD | status, then the input words, then
- * SCORE_OUTPUT_WORD | token for each output token, rising strictly. No bytes is a list, and a journal, of no instants.
+ * SCORE_OUTPUT_WORD | token for each output token, rising strictly; a run writes none at status 1 or 2. No bytes is a
+ * list, and a journal, of no instants.
  */
 #define SCORE_INSTANT_WORD UINT32_C(0xC0000000) /* status in bits 1..0, which are 0 in a list; status 3 is no status */
 #define SCORE_INPUT_WORD UINT32_C(0xD0000000)   /* token in bits 7..0 */
@@ -107,7 +108,7 @@ enum {
 /* The statuses of instants. */
 enum {
     SCORE_QUIET = 0,  /* nothing was left to reduce */
-    SCORE_CLASH = 1,  /* the same, with token 0 in the store, which then holds all T tokens */
+    SCORE_CLASH = 1,  /* the same, with token 0 in the store, which then holds all T tokens; the output is empty */
     SCORE_ABORTED = 2 /* an abort was reduced, in this instant or in an earlier one */
 };
 
@@ -134,7 +135,8 @@ SCORE_MUST_USE uint64_t score_check(const uint8_t *score, size_t score_len);
  * Lent to be written:
  *   state    the agents awake; afterwards those awake next;
  *   store    afterwards the map of the tokens in the store at the instant's end, standing facts among them;
- *   output   afterwards the map of those of them from the lowest to the highest port;
+ *   output   afterwards the map of those of them from the lowest to the highest port, but at status 1 of none: a
+ *            clash commands nothing;
  *   scratch  the call's working space, whatever it holds: agent i is bit i % 8 of byte i / 8, set where it is reduced.
  *            The count is the number of bits set, status 2 aside; they are cleared before the call returns.
  * To start a score, lend its start state; for each later instant lend the state as the last one left it.
@@ -143,11 +145,12 @@ SCORE_MUST_USE uint64_t score_check(const uint8_t *score, size_t score_len);
  * score_check. Its value is that of score_check for 1 to 7, and 0 otherwise. An accepted answer has a status and a
  * count: how many distinct agents of the score were reduced by the end of the instant, input tokens left out.
  *
- *   number     status      state             store and output      scratch
- *   0          0 or 1      the next state    written, every byte   zero, every byte
- *   0          2, count 0  aborted           written, no tokens    zero, every byte
- *   1 to 10    none        as it was         as they were          as it was
- *   11         none        as it was         as they were          zero, every byte
+ *   number     status      state             store                 output                scratch
+ *   0          0           the next state    written, every byte   written, every byte   zero, every byte
+ *   0          1           the next state    written, all T        written, no tokens    zero, every byte
+ *   0          2, count 0  aborted           written, no tokens    written, no tokens    zero, every byte
+ *   1 to 10    none        as it was         as it was             as it was             as it was
+ *   11         none        as it was         as it was             as it was             zero, every byte
  *
  * An aborted state answers status 2 at each later instant, and stays as it is. It switches off no test.
  */
@@ -197,7 +200,8 @@ SCORE_MUST_USE uint64_t score_run(const uint8_t *score, size_t score_len, uint8_
  *
  * The answer's number is 0 (accepted) or one of 1 to 8 and 11 to 14. 1 to 8 are tried as in score_instant, then 12 and
  * 13 over the whole journal before the first instant, then 11 and 14 at each instant. A journal that ends early, at
- * an instant's end, is a journal.
+ * an instant's end, is a journal. One with output words in an instant of status 1, as versions before 3 wrote them, has
+ * its form and meets 14 there.
  *
  *   number     value                                              scratch
  *   0          instants read                                      zero, every byte

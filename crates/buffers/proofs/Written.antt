@@ -2,16 +2,16 @@
 --     state-written, store-written, output-written     the buffers of the answer
 use mathlib.Core.Path.{_≡_, refl, ap, _∙_}
 use mathlib.Core.Bool.{Bool, true, false, cond}
-use mathlib.Core.List.{[], _∷_, map}
-use Prim.Native.Nat.{suc, _+_, _-_, _≤_}
+use mathlib.Core.List.{[], _∷_}
+use Prim.Native.Nat.{_≤_}
 use native.Mathlib.Omega.{arith}
 use borrow.Author.Tests.{eqb-true}
 use lib.Dec.{eqb}
 use lib.ListN.{length}
-use Rattle.laws.specs.Sets.{Same, has, below}
-use Rattle.laws.proofs.Sets.{keep-agrees, has-same}
+use Rattle.laws.specs.Sets.{Same}
 use Rattle.tcc.specs.Score.{Score}
 use Rattle.tcc.specs.Instant.{Answer, output, running, aborted, after}
+use Rattle.tcc.proofs.Output.{output-same}
 use Rattle.store.specs.Flags.{setOf, flagsOf}
 use Rattle.bits.specs.Bits.{bytesOf}
 use Rattle.lent.specs.States.{runningWord, abortedWord, agentWords, asBytes}
@@ -38,7 +38,4 @@ pub store-written : (sc : Score) (a : Answer) → sc .tokens ≤ 256 → Inside 
 store-written sc a few i = mapOf-same (flags-back 256 (a .store) (λ t m. omega (arith, i .tokens t m)))
 
 pub output-written : (sc : Score) (a : Answer) → sc .tokens ≤ 256 → Inside sc a → mapOf (output sc (a .status) (setOf (flagsOf 256 (a .store)))) ≡ mapOf (output sc (a .status) (a .store))
-unfolding output
-output-written sc a few i =
-    let same = flags-back 256 (a .store) (λ t m. omega (arith, i .tokens t m)) in
-    ap mapOf (keep-agrees (λ t. has t (setOf (flagsOf 256 (a .store)))) (λ t. has t (a .store)) (map (λ k. sc .lowest-port + k) (below (suc (sc .highest-port) - sc .lowest-port))) (λ t m. has-same t same))
+output-written sc a few i = ap mapOf (output-same sc (a .status) (flags-back 256 (a .store) (λ t m. omega (arith, i .tokens t m))))

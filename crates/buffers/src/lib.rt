@@ -41,7 +41,7 @@ pub fn hand_over(
     let first = first_word(outcome.status);
     lent::write_state(state, first, head.agents, awake);
     maps::write_map(store, head.tokens, held);
-    let out = standing::sent(score, held);
+    let out = standing::sent(score, outcome.status, held);
     maps::write_map(output, head.tokens, out);
 }
 

@@ -3,11 +3,11 @@
 -- score check, the form of the list and the instants from the start state, in place of those from the state's bytes.
 use mathlib.Core.Path.{_≡_, refl, sym, _∙_}
 use mathlib.Core.Bool.{true, false}
-use mathlib.Core.List.{List, [], _∷_, append-nil, List·Memᴰ·eq-of-singleton}
+use mathlib.Core.List.{List, [], _∷_, _++_, List·Memᴰ·eq-of-singleton}
 use Prim.Native.Nat.{ℕ, _+_, _*_, _/_, _%_}
 use native.Mathlib.Omega.{arith}
 use lib.Dec.{leb}
-use lib.ListN.{length, take, drop-of-length-le}
+use lib.ListN.{length, take, drop}
 use Rattle.laws.specs.Sets.{any}
 use Rattle.laws.proofs.Sets.{some-any, keep-kept, lt-below}
 use Rattle.tcc.specs.Closure.{fires, firing, closeWithin, close}
@@ -102,15 +102,14 @@ listed-good : formOf false 4 (bytes listed) ≡ Good
 unfolding words field isWord mayFollow firstAgainst formOf
 listed-good = refl
 
--- a run of S from its start state, by what it does, where its words fill the journal
-sample-runs : (n : ℕ) (r : Ran) → playOn (decode (bytes sample)) (running (4 ∷ [])) n (inputLists (bytes listed)) ≡ r → n ≡ 4 * length (r .words) →
+-- a run of S from its start state, by what it does
+sample-runs : (n : ℕ) (r : Ran) → playOn (decode (bytes sample)) (running (4 ∷ [])) n (inputLists (bytes listed)) ≡ r →
     (journal scratch : List ℕ) → length journal ≡ n → length scratch ≡ scratchBytes →
     run.exit (bytes sample) (bytes listed) (run.lent (asBytes (running (4 ∷ []))) journal scratch)
-    ≡ record { lent = run.lent (r .state) (bytesOf (r .words)) noScratch; reply = run.ending (r .stop) (r .instants) }
+    ≡ record { lent = run.lent (r .state) (bytesOf (r .words) ++ drop (4 * length (r .words)) journal) noScratch; reply = run.ending (r .stop) (r .instants) }
 unfolding words field
-sample-runs n r e fills journal scratch h i =
-    exit-plays (bytes sample) sample-accepted (bytes listed) journal scratch (running (4 ∷ [])) start-lawful i listed-good
-    ∙ rw (h, e, drop-of-length-le journal {i = 4 * length (r .words)} (omega arith), append-nil (bytesOf (r .words))) refl
+sample-runs n r e journal scratch h i =
+    exit-plays (bytes sample) sample-accepted (bytes listed) journal scratch (running (4 ∷ [])) start-lawful i listed-good ∙ rw (h, e) refl
 
 -- what a run does that leaves agent 2 awake
 abbrev ran : List ℕ → ℕ → Stop → Ran
@@ -128,7 +127,7 @@ marked = (
         refused-length 3 refl,
         (
           refused-length 5388 refl,
-          (refl, (refl, (refl, (refl, (state-refused, (input-refused, (refl, (refl, (sample-runs 16 (ran (take 4 printed) 2 Room) refl refl, (sample-runs 12 (ran (take 3 printed) 1 Room) refl refl, (sample-runs 36 (ran printed 3 Not) refl refl, (refl, (refl, (refl, (refl, tt))))))))))))))),
+          (refl, (refl, (refl, (refl, (state-refused, (input-refused, (refl, (refl, (sample-runs 16 (ran (take 4 printed) 2 Room) refl, (sample-runs 12 (ran (take 3 printed) 1 Room) refl, (sample-runs 36 (ran printed 3 Not) refl, (refl, (refl, (refl, (refl, tt))))))))))))))),
         ),
       ),
     ),

@@ -9,9 +9,9 @@
 --     marked           the table
 --     Marked           every case of the table holds
 use mathlib.Core.Path.{_≡_}
-use mathlib.Core.List.{List, [], _∷_, map}
-use Prim.Native.Nat.{ℕ, _/_, _%_, _^_}
-use lib.ListN.{length, take, set, replicate}
+use mathlib.Core.List.{List, [], _∷_, _++_, map}
+use Prim.Native.Nat.{ℕ, _*_, _/_, _%_, _^_}
+use lib.ListN.{length, take, drop, set, replicate}
 use Rattle.laws.specs.Sets.{below, keep, has}
 use Rattle.tcc.specs.Score.{Score}
 use Rattle.tcc.specs.Weight.{weight}
@@ -54,7 +54,8 @@ pub data Case : Type 0 where
   -- all buffers are as they were, whatever the other three held
   turned-down : List ℕ → List ℕ → List ℕ → Reply → Case
   -- a run from the start state, given by the words of the score and of the input list and by the length of the journal:
-  -- the words that the journal and the state hold afterwards, and the reply, whatever journal and scratch held
+  -- the words that the journal then starts with, beyond which it is as it was, the words of the state, and the reply,
+  -- whatever journal and scratch held
   runs : List ℕ → List ℕ → ℕ → List ℕ → List ℕ → RunReply → Case
 
 abbrev pub Holds : Case → Type 0
@@ -68,7 +69,7 @@ Holds (turned-down ws state input r) =
 Holds (runs ws inputs n written state r) =
     (journal scratch : List ℕ) → length journal ≡ n → length scratch ≡ scratchBytes →
     _≡_ {A = run.Exit} (run.exit (bytes ws) (bytes inputs) (run.lent (asBytes (startState (decode (bytes ws)))) journal scratch))
-    (record { lent = run.lent (bytes state) (bytes written) noScratch; reply = r })
+    (record { lent = run.lent (bytes state) (bytes written ++ drop (4 * length written) journal) noScratch; reply = r })
 
 abbrev pub sample : List ℕ
 sample = 0x10000403 ∷ 0xB0000302 ∷ 0x50000002 ∷ 0x70000400 ∷ 0xA0000000 ∷ 0x80000002 ∷ 0x60000C01 ∷ 0x30000004 ∷ 0x20030200 ∷ []
@@ -89,7 +90,7 @@ abbrev pub listed : List ℕ
 listed = 0xC0000000 ∷ 0xD0000001 ∷ 0xC0000000 ∷ 0xC0000000 ∷ 0xD0000001 ∷ 0xD0000003 ∷ []
 
 abbrev pub printed : List ℕ
-printed = 0xC0000000 ∷ 0xD0000001 ∷ 0xE0000002 ∷ 0xC0000000 ∷ 0xC0000001 ∷ 0xD0000001 ∷ 0xD0000003 ∷ 0xE0000002 ∷ 0xE0000003 ∷ []
+printed = 0xC0000000 ∷ 0xD0000001 ∷ 0xE0000002 ∷ 0xC0000000 ∷ 0xC0000001 ∷ 0xD0000001 ∷ 0xD0000003 ∷ []
 
 -- agent 0 tells 1, agent 1 is "unless 1" with body 0, T = 2
 abbrev pub unless-pair : List ℕ

@@ -7,17 +7,18 @@
 --     from-aborted         from an aborted state nothing is reduced
 use mathlib.Core.Path.{_≡_, refl, sym, ap, subst, subst⁻¹, _∙_}
 use mathlib.Core.Bool.{Bool, true, false, cond}
-use mathlib.Core.List.{List, [], _∷_, map, List·Memᴰ}
-use Prim.Native.Nat.{ℕ, suc, _+_, _-_, _<_}
+use mathlib.Core.List.{List, [], List·Memᴰ}
+use Prim.Native.Nat.{ℕ, _<_}
 use native.Mathlib.Omega.{arith}
 use borrow.Author.Tests.{lt-ltb, ne-eqb}
 use lib.Dec.{ltb}
-use Rattle.laws.specs.Sets.{Same, below, keep, has}
+use Rattle.laws.specs.Sets.{Same, has}
 use Rattle.laws.proofs.Booleans.{true-is-false}
 use Rattle.laws.proofs.Sets.{Within, has-member, member-has, on-keep, keep-kept, same-sym, same-trans}
 use Rattle.tcc.specs.Score.{Score}
 use Rattle.tcc.specs.Order.{Item, End, aborted, left, awakeNext}
 use Rattle.tcc.specs.Instant.{Answer, abortedAnswer, output, running, answer, after}
+use Rattle.tcc.proofs.Output.{output-same, output-none}
 use Rattle.tcc.specs.Instant as state
 use Rattle.tcc.specs.Confluence.{QuietAs, EndsAs}
 use Rattle.tcc.proofs.SameAnswer.{SameAnswer}
@@ -28,7 +29,7 @@ use Rattle.lent.proofs.SameState.{state-running, state-aborted}
 use Rattle.maps.specs.Maps.{tokensIn, mapOf}
 use Rattle.maps.proofs.Round.{mapOf-same, map-round}
 use Rattle.journal.specs.History as journal
-use Rattle.journal.proofs.Rising.{rising-map, output-same}
+use Rattle.journal.proofs.Rising.{rising-map}
 use Rattle.demands.specs.Calls.{Answered}
 use Rattle.demands.specs.Determinacy.{EndsLike}
 use Rattle.demands.specs.Operational.{Holds, Leaves}
@@ -55,14 +56,6 @@ quiet-status {s = s} {a = a} q = go (has 0 s) refl
 quiet-after : {sc : Score} {l : List Item} {s : List ℕ} {a : Answer} → QuietAs sc l s a → after a ≡ running (a .awake)
 quiet-after {a = a} q = rw (ne-eqb (a .status) 2 (q .unaborted))
 
-keep-nothing : (l : List ℕ) → keep (λ t. has t []) l ≡ []
-keep-nothing [] = refl
-keep-nothing (x ∷ l) = keep-nothing l
-
-no-output : (sc : Score) (status : ℕ) → output sc status [] ≡ []
-unfolding output
-no-output sc status = keep-nothing (map (λ k. sc .lowest-port + k) (below (suc (sc .highest-port) - sc .lowest-port)))
-
 -- the tokens of a map of tokens below 256
 map-back : (l : List ℕ) → Within (λ t. t < 256) l → Same (tokensIn (mapOf l)) l
 map-back l within = same-trans (map-round l) (λ t. (
@@ -78,7 +71,7 @@ module _ {score : List ℕ} {p : Answered} (h : IsInstant score p) where
   aborted-holds e = record {
     status-is = ap (λ q. q .status) (h .is) ∙ ap (λ a. a .status) e;
     store-is = ap (λ q. q .store) (h .is) ∙ ap (λ a. mapOf (a .store)) e;
-    output-is = ap (λ q. q .output) (h .is) ∙ ap (λ a. mapOf (output (decode score) (a .status) (a .store))) e ∙ ap mapOf (no-output (decode score) 2);
+    output-is = ap (λ q. q .output) (h .is) ∙ ap (λ a. mapOf (output (decode score) (a .status) (a .store))) e ∙ ap mapOf (output-none (decode score) 2);
     after-is = ap (λ q. q .after) (h .is) ∙ ap (λ a. asBytes (after a)) e;
   }
 

@@ -65,7 +65,7 @@ module _ (score : List ℕ) (accepted : verdicts.numberOf (check.verdict score) 
       (on-cons (law .roots-known 0 (law .some-roots)) (λ i m. absurd (List·Memᴰ·not-nil m)))
 
   module _ (journal scratch : List ℕ) (long : length scratch ≡ scratchBytes) where
-    check-reply : exit score journal scratch .reply ≡ byForm (formOf true (sizes score .tokens) journal) (left scratch) (left noScratch (checked score journal)) .reply
+    pub check-reply : exit score journal scratch .reply ≡ byForm (formOf true (sizes score .tokens) journal) (left scratch) (left noScratch (checked score journal)) .reply
     unfolding exit
     check-reply = rw (accepted, long)
 

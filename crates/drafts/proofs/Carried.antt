@@ -1,5 +1,4 @@
 -- The chains of a draft show the history of the plain score.
---     no-output            nothing of an empty store goes to the ports
 --     start-beside         the multisets and the stores that an instant starts with
 --     old-has              the two stores pass the same tests of the draft's tokens
 --     output-carried, status-carried, quiet-shown     so a quiet instant shows the same
@@ -8,11 +7,11 @@
 use mathlib.Core.Path.{_≡_, refl, sym, ap, ap₂, _∙_}
 use mathlib.Core.Bool.{Bool, true, false}
 use mathlib.Core.List.{List, [], _∷_, _++_, map, List·Memᴰ·head, List·Memᴰ·tail}
-use Prim.Native.Nat.{ℕ, suc, _+_, _-_, _<_}
+use Prim.Native.Nat.{ℕ, _<_}
 use native.Mathlib.Omega.{arith}
-use Rattle.laws.specs.Sets.{Same, below, has}
+use Rattle.laws.specs.Sets.{Same, has}
 use Rattle.laws.proofs.Booleans.{true-is-false, by-test}
-use Rattle.laws.proofs.Sets.{Within, on-append, on-map, has-member, member-has, not-has, has-same, keep-agrees, keep-none, below-lt, same-trans}
+use Rattle.laws.proofs.Sets.{Within, on-append, on-map, has-member, member-has, not-has, has-same, same-trans}
 use Rattle.tcc.specs.Score.{Score}
 use Rattle.tcc.specs.Store.{Closes, closure}
 use Rattle.tcc.specs.Instant.{Answer, output, running, instant, answer}
@@ -22,6 +21,7 @@ use Rattle.tcc.specs.Confluence.{QuietAs}
 use Rattle.tcc.proofs.Store.{closure-exact}
 use Rattle.tcc.proofs.Confluence.{confluence}
 use Rattle.tcc.proofs.Chain.{after-running}
+use Rattle.tcc.proofs.Output.{ports-between, output-none, output-agrees}
 use Rattle.journal.specs.History.{instantWords, entry, history}
 use Rattle.drafts.specs.Draft.{Draft, whens}
 use Rattle.drafts.specs.Order.{Copy, Item, copy, input, End, aborted, left, start}
@@ -31,10 +31,6 @@ use Rattle.drafts.proofs.Matching.{matches-start}
 use Rattle.drafts.proofs.Stores.{start-extends}
 use Rattle.drafts.proofs.Orders.{ItemStands, Beside, order-leads}
 use Rattle.drafts.proofs.Ends.{quiet-ends}
-
-no-output : (sc : Score) (status : ℕ) → output sc status [] ≡ []
-unfolding output
-no-output sc status = keep-none (λ t. has t []) (map (λ k. sc .lowest-port + k) (below (suc (sc .highest-port) - sc .lowest-port))) (λ t m. refl)
 
 module _ {d : Draft} {sc : Score} {Member : ℕ → ℕ → Type 0} {Ok : List ℕ → Type 0} {Standing : ℕ → List ℕ → Type 0} {place : ℕ → List ℕ → ℕ} (carries : Carries d sc Member Ok Standing place) where
   pub start-beside : {copies : List Copy} {inputs s : List ℕ} → Closes (whens d) [] s → StandingAll d sc Member Ok Standing place copies → Within (λ t. t < d .tokens) inputs → Beside carries (start copies inputs) s (plain.start (placesOf place copies) inputs) (closure sc [])
@@ -53,10 +49,9 @@ module _ {d : Draft} {sc : Score} {Member : ℕ → ℕ → Type 0} {Ok : List �
         go false e = e ∙ sym (not-has (λ m. true-is-false (member-has (extends .back t known m)) e))
 
     output-carried : (status : ℕ) {store : List ℕ} → Same p store → output (whens d) status s ≡ output sc status store
-    unfolding output
-    output-carried status {store} same = rw (carries .same-lowest, carries .same-highest)
-        (keep-agrees (λ t. has t s) (λ t. has t store) _ (on-map (λ t. has t s ≡ has t store) _ (below (suc (d .highest-port) - d .lowest-port))
-        (λ k m. old-has (d .lowest-port + k) (omega (arith, below-lt (suc (d .highest-port) - d .lowest-port) k m, carries .lawful .ports-known)) ∙ has-same (d .lowest-port + k) same)))
+    output-carried status {store} same =
+        output-agrees (whens d) sc (sym (carries .same-lowest)) (sym (carries .same-highest)) status s store
+        (λ t m. old-has t (omega (arith, ports-between (whens d) t m .1, carries .lawful .ports-known)) ∙ has-same t same)
 
     status-carried : {k : List plain.Item} {a : Answer} → QuietAs sc k p a → statusOf s ≡ a .status
     status-carried {a = a} q = by-test (λ n. n ≡ a .status) (has 0 s)
@@ -70,7 +65,7 @@ module _ {d : Draft} {sc : Score} {Member : ℕ → ℕ → Type 0} {Ok : List �
   aborted-shown : (rest : List (List ℕ)) → shown d rest (map (λ later. aborted) rest) ≡ history sc state.aborted rest
   unfolding shown shownAt history answer
   aborted-shown [] = refl
-  aborted-shown (inputs ∷ rest) = ap₂ _++_ (ap (instantWords 2 inputs) (sym (no-output sc 2))) (aborted-shown rest)
+  aborted-shown (inputs ∷ rest) = ap₂ _++_ (ap (instantWords 2 inputs) (sym (output-none sc 2))) (aborted-shown rest)
 
   chain-shown : {copies : List Copy} {instants : List (List ℕ)} {ends : List End} → Chain d copies instants ends → (agents : List ℕ) →
       OkEnds d sc Member Ok Standing place ends → InputsKnown d sc Member Ok Standing place instants → StandingAll d sc Member Ok Standing place copies →

@@ -16,7 +16,7 @@ use Rattle.lent.proofs.Round.{asBytes-same}
 use Rattle.lent.proofs.SameState.{after-same}
 use Rattle.maps.specs.Maps.{tokensIn, mapOf}
 use Rattle.maps.proofs.Round.{mapOf-same}
-use Rattle.journal.proofs.Rising.{output-same}
+use Rattle.tcc.proofs.Output.{output-same}
 use Rattle.demands.specs.Calls.{Answered}
 use Rattle.demands.proofs.Accepted.{given}
 use Rattle.demands.proofs.Instants.{madeBy, IsInstant}

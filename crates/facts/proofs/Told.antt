@@ -20,6 +20,7 @@ use Rattle.tcc.specs.FixedPoint.{Closed, Sound, Marked, Settled}
 use Rattle.tcc.specs.declared.Agent.the-variants.{Abort}
 use Rattle.tcc.proofs.Closure.{Follows}
 use Rattle.tcc.proofs.FixedPoint.{Reached, reached-least, reach, settles, aborts}
+use Rattle.tcc.proofs.Output.{output-agrees}
 use Rattle.tcc.proofs.SameAnswer.{SameAnswer, answer-refl, both-settled, lives, store, marks-closed, marks-sound, abort-cases, own-aborting, own-settling}
 use Rattle.facts.proofs.Word.{fact}
 use Rattle.facts.proofs.OneMore.{withRules, OneMore}
@@ -55,8 +56,7 @@ module _ (sc : Score) (rules : List (Rule ℕ)) where
   }
 
   output-rules : (status : ℕ) (store : List ℕ) → output (withRules sc rules) status store ≡ output sc status store
-  unfolding output
-  output-rules status store = refl
+  output-rules status store = output-agrees (withRules sc rules) sc refl refl status store store (λ t m. refl)
 
 module _ (sc : Score) (before rest : List (Rule ℕ)) (t : ℕ) where
   abbrev without : Score

@@ -18,6 +18,7 @@ use Rattle.laws.specs.Sets.{any}
 use Rattle.laws.proofs.Booleans.{true-is-false}
 use Rattle.tcc.specs.Score.{Score}
 use Rattle.tcc.specs.Instant.{State, Answer, output, answer, after}
+use Rattle.tcc.proofs.Output.{output-from}
 use Rattle.format.specs.Decode.{sizes, decode}
 use Rattle.format.specs.Playable.{Playable}
 use Rattle.format.proofs.Decode.{playable-agents, decode-tokens}
@@ -28,7 +29,6 @@ use Rattle.engine.specs.Outcome.{outcomeOf}
 use Rattle.lent.specs.States.{stateOf, asBytes, LawfulState}
 use Rattle.standing.specs.declared.Standing.{Standing}
 use Rattle.standing.specs.Standing.{stateIn}
-use Rattle.standing.proofs.Ports.{output-below}
 use Rattle.standing.proofs.Inside.{Inside, answer-inside, flags-known}
 use Rattle.journal.specs.History.{instantWords, entry, Rising}
 use Rattle.journal.proofs.Histories.{answer-status}
@@ -105,7 +105,7 @@ module _ (score : List ℕ) (p : Playable score) (st : State) (inputs : List ℕ
   outputs-known t le =
       ap (λ l. getD l t false) (h .out-is)
       ∙ flags-known 256 (decode score .tokens) sends
-      (λ u m. omega (arith, output-below (decode score) _ _ (p .lawful .ports-ordered) u m, p .lawful .ports-known)) t (omega (arith, decode-tokens score))
+      (λ u m. omega (arith, output-from (decode score) _ _ u m .high, p .lawful .ports-known)) t (omega (arith, decode-tokens score))
 
   pub words-are : instantWords (s .status) inputs (setOf (s .out)) ≡ entry (decode score) inputs (answer (decode score) st inputs)
   words-are =

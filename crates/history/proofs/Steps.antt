@@ -15,6 +15,7 @@ use Rattle.laws.specs.Sets.{any}
 use Rattle.tcc.specs.Score.{Score}
 use Rattle.tcc.specs.Lawful.{Lawful}
 use Rattle.tcc.specs.Instant.{State, running, aborted, Answer, output, after}
+use Rattle.tcc.proofs.Output.{output-same}
 use Rattle.words.specs.Word.{wordAt}
 use Rattle.store.specs.Flags.{setOf, flagsOf}
 use Rattle.store.proofs.Flags.{flagsOf-same}
@@ -24,7 +25,6 @@ use Rattle.lent.proofs.Agents.{agents-set}
 use Rattle.lent.proofs.Round.{state-round, faultless-lawful}
 use Rattle.standing.specs.Standing.{stateIn}
 use Rattle.standing.proofs.Inside.{Inside, flags-back, flags-known, next-lawful}
-use Rattle.journal.proofs.Rising.{output-same}
 
 same-aborted : (st : State) → SameState st aborted → st ≡ aborted
 unfolding SameState

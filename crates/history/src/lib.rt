@@ -67,7 +67,7 @@ pub fn step_from(
     let outcome = standing::answer_from(score, head, standing, told, scratch);
     let awake = outcome.awake;
     let held = outcome.store;
-    let out = standing::sent(score, held);
+    let out = standing::sent(score, outcome.status, held);
     let unlawful = bits::any_from(&awake, head.agents);
     let after = standing::standing_after(outcome);
     Step {

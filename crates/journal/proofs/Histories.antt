@@ -20,13 +20,14 @@ use Rattle.tcc.specs.Score.{Score, agentAt}
 use Rattle.tcc.specs.Lawful.{Lawful}
 use Rattle.tcc.specs.Instant.{Answer, abortedAnswer, quietAnswer, liveIn, heldIn, isAbort, reached, instant, State, running, aborted, output, answer, after}
 use Rattle.tcc.proofs.SameAnswer.{SameAnswer}
+use Rattle.tcc.proofs.Output.{output-same}
 use Rattle.words.specs.Word.{words}
 use Rattle.bits.specs.Bits.{bytesOf}
 use Rattle.form.specs.declared.Form.the-variants.{Good}
 use Rattle.form.specs.Form.{formOf}
 use Rattle.parts.specs.Instants.{instantsIn, inputsIn, inputLists}
 use Rattle.journal.specs.History.{instantWords, entry, history, Rising}
-use Rattle.journal.proofs.Rising.{output-rising, output-same}
+use Rattle.journal.proofs.Rising.{output-rising}
 use Rattle.journal.proofs.Forms.{WellFormed}
 use Rattle.journal.proofs.Formed.{words-inputs, words-formed, formed-words, formed-good, formed-instants}
 

@@ -6,9 +6,7 @@
 --     rising-keep, rising-shift, below-rising     the kept of rising tokens, the same distance higher, the numbers below n
 --     flags-rising, set-rising, tokensIn-rising, output-rising     the tokens flagged, those in a map and those of an output
 --     rising-set, rising-map     rising tokens come back from their flags and from their map
---     output-same        equal stores have equal outputs
---     output-has         a token of the store that lies in the ports is in the output
-use mathlib.Core.Path.{_≡_, refl, ap₂, subst}
+use mathlib.Core.Path.{_≡_, refl, ap₂}
 use mathlib.Core.Bool.{Bool, true, false, cond}
 use mathlib.Core.List.{List, [], _∷_, _++_, map, List·Memᴰ, List·Memᴰ·head, List·Memᴰ·tail, List·Memᴰ·cases-cons, List·Memᴰ·not-nil}
 use mathlib.Core.Logic.{⊎-elim, by-cases}
@@ -20,9 +18,10 @@ use lib.Dec.{ltb}
 use lib.ListN.{length, getD}
 use Rattle.laws.specs.Sets.{Same, below, keep, has}
 use Rattle.laws.proofs.Booleans.{true-is-false}
-use Rattle.laws.proofs.Sets.{Within, on-cons, on-append, on-keep, keep-kept, keep-agrees, map-member, below-lt, lt-below, member-has, has-same, same-trans}
+use Rattle.laws.proofs.Sets.{Within, on-cons, on-append, on-keep, keep-kept, below-lt, same-trans}
 use Rattle.tcc.specs.Score.{Score}
 use Rattle.tcc.specs.Instant.{output}
+use Rattle.tcc.proofs.Output.{output-either}
 use Rattle.words.specs.Map.{inMap}
 use Rattle.store.specs.Flags.{setOf, flagsOf}
 use Rattle.store.proofs.Flags.{member-flag, flagsOf-member, member-flagsOf}
@@ -115,10 +114,9 @@ unfolding tokensIn
 tokensIn-rising m = rising-keep (inMap m) (below-rising 256)
 
 pub output-rising : (sc : Score) (status : ℕ) (store : List ℕ) → sc .lowest-port ≤ sc .highest-port → sc .highest-port < sc .tokens → Rising (sc .tokens) (output sc status store)
-unfolding output
 output-rising sc status store h g =
     let ports = rising-shift (sc .lowest-port) (below-rising (suc (sc .highest-port) - sc .lowest-port)) in
-    rising-keep (λ t. has t store) (rising-within ports (λ t m. let k = rising-below ports t m in omega arith))
+    output-either sc status (Rising (sc .tokens)) store none (rising-keep (λ t. has t store) (rising-within ports (λ t m. let k = rising-below ports t m in omega arith)))
 
 pub rising-set : (n T : ℕ) (l : List ℕ) → T ≤ n → Rising T l → setOf (flagsOf n l) ≡ l
 rising-set n T l h r = rising-unique (flags-rising (flagsOf n l)) r (λ t. (flagsOf-member n l, λ m. member-flagsOf n l (let k : t < T = rising-below r t m in omega arith) m))
@@ -131,16 +129,3 @@ rising-map T l h r = rising-unique (tokensIn-rising (mapOf l)) r (same-trans (ma
       λ m. on-keep {P = λ u. List·Memᴰ u l} (λ u. ltb u 256) l (λ u k p. k) t m,
       λ m. keep-kept (λ u. ltb u 256) m (lt-ltb t 256 (let k : t < T = rising-below r t m in omega arith)),
     )
-
-pub output-same : (sc : Score) (status : ℕ) {s t : List ℕ} → Same s t → output sc status s ≡ output sc status t
-unfolding output
-output-same sc status {s} {t} e =
-    keep-agrees (λ u. has u s) (λ u. has u t) (map (λ k. sc .lowest-port + k) (below (suc (sc .highest-port) - sc .lowest-port))) (λ u m. has-same u e)
-
-pub output-has : (sc : Score) (status : ℕ) {store : List ℕ} {t : ℕ} → sc .lowest-port ≤ t → t ≤ sc .highest-port → List·Memᴰ t store → List·Memᴰ t (output sc status store)
-unfolding output
-output-has sc status {store} {t} low high m =
-    let e : sc .lowest-port + (t - sc .lowest-port) ≡ t = omega arith in
-    let ports = map (λ k. sc .lowest-port + k) (below (suc (sc .highest-port) - sc .lowest-port)) in
-    let port : List·Memᴰ t ports = subst (λ u. List·Memᴰ u ports) e (map-member (λ k. sc .lowest-port + k) (lt-below (suc (sc .highest-port) - sc .lowest-port) (omega arith))) in
-    keep-kept (λ u. has u store) port (member-has m)

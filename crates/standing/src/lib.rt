@@ -84,11 +84,14 @@ pub fn write_standing(state: &mut [u8], agents: usize, standing: Standing)
     lent::write_state(state, lent::ABORTED, 0, [false; 1024]);
 }
 
-// What goes to the ports of a store: the one place where outputs are read off.
-pub fn sent(score: &[u8], store: Tokens) -> Tokens
+// What goes to the ports: the one place where outputs are read off. In a clash nothing does.
+pub fn sent(score: &[u8], status: usize, store: Tokens) -> Tokens
     requires { ⌜ Playable (now score) ⌝ }
-    ensures { λ r. ⌜ ((status : ℕ) → r ≡ flagsOf 256 (output (decode (now (score .entry))) status (setOf store))) ⌝ }
+    ensures { λ r. ⌜ r ≡ flagsOf 256 (output (decode (now (score .entry))) status (setOf store)) ⌝ }
 {
+    if status == 1 {
+        return [false; 256];
+    }
     let ports = words::word_at(score, 1);
     to_ports(
         store,

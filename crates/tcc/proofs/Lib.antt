@@ -13,3 +13,5 @@ pub mod Finishes
 pub mod SameCopies
 pub mod Chain
 pub mod SameAnswer
+pub mod Output
+pub mod Unaborted

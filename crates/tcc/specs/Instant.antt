@@ -3,7 +3,8 @@
 --     Answer           status, store, distinct agents reduced, agents awake next
 --     count            the number of distinct agents reduced; 0 where the instant aborts
 --     instant          one instant of a running score
---     output           the tokens that go to the ports
+--     ports            the tokens that may go to the drives
+--     output           those that go, by an instant's status and store
 --     State            the state of a score between instants
 --     startState       the state before the first
 --     answer           the answer in any state
@@ -130,9 +131,13 @@ answerOf sc facts = cond (any (λ i. isAbort (agentAt sc i)) (liveIn facts)) abo
 unfoldable pub instant : Score → List ℕ → List ℕ → Answer
 instant sc agents inputs = answerOf sc (reached sc agents inputs)
 
--- "Output: the store's tokens from lowest to highest port", rising
+-- "from lowest to highest port", rising
+abbrev pub ports : Score → List ℕ
+ports sc = map (λ k. sc .lowest-port + k) (below (suc (sc .highest-port) - sc .lowest-port))
+
+-- "Output: the store's tokens from lowest to highest port"; "The output of a status 1 instant is empty"
 unfoldable pub output : Score → ℕ → List ℕ → List ℕ
-output sc status store = keep (λ t. has t store) (map (λ k. sc .lowest-port + k) (below (suc (sc .highest-port) - sc .lowest-port)))
+output sc status store = cond (eqb status 1) [] (keep (λ t. has t store) (ports sc))
 
 pub data State : Type 0 where
   running : List ℕ → State

@@ -7,6 +7,7 @@ use borrow.Author.Needs.{needs}
 use native.Mathlib.Omega.{arith}
 use lib.ListN.{getD}
 use Rattle.tcc.specs.Instant.{output}
+use Rattle.tcc.proofs.Output.{output-from}
 use Rattle.format.specs.Decode.{decode}
 use Rattle.format.proofs.Decode.{decode-tokens}
 use Rattle.store.specs.Flags.{setOf}
@@ -14,7 +15,6 @@ use Rattle.bits.specs.Bits.{bytesOf}
 use Rattle.lent.specs.States.{agentWords}
 use Rattle.maps.specs.Maps.{mapOf}
 use Rattle.maps.proofs.Round.{mapOf-same}
-use Rattle.standing.proofs.Ports.{output-below}
 use Rattle.standing.proofs.Inside.{flags-back, flags-known}
 use Rattle.buffers.proofs.hand_over.Statement.{statement}
 use Rattle.buffers.proofs.hand_over.Tie as tie
@@ -43,8 +43,8 @@ write-map-requires-2 c κs =
     let e = ap (λ h. h .tokens) (b .pre .0) in (
       b .pre .1 .1 .0 .output-bytes,
       λ i le.
-          ap (λ r. getD r i false) (c .before .sent .ensures 0)
-          ∙ flags-known 256 (decode s .tokens) (output (decode s) 0 (setOf (b .args .outcome .store))) (λ t m. omega (arith, output-below (decode s) 0 (setOf (b .args .outcome .store)) (l .ports-ordered) t m, l .ports-known)) i (omega (arith, decode-tokens s, e)),
+          ap (λ r. getD r i false) (c .before .sent .ensures)
+          ∙ flags-known 256 (decode s .tokens) (output (decode s) (b .args .outcome .status) (setOf (b .args .outcome .store))) (λ t m. omega (arith, output-from (decode s) (b .args .outcome .status) (setOf (b .args .outcome .store)) t m .high, l .ports-known)) i (omega (arith, decode-tokens s, e)),
     )
 
 same-length : tie.Need-same-length
@@ -62,11 +62,11 @@ returns c =
     let sc = decode (b .args .score .now) in
     let l = b .pre .1 .0 .lawful in
     let out = output sc (b .args .outcome .status) (setOf (b .args .outcome .store)) in
-    let within : (t : ℕ) → List·Memᴰ t out → t < 256 = λ t m. omega (arith, output-below sc (b .args .outcome .status) (setOf (b .args .outcome .store)) (l .ports-ordered) t m, l .ports-known, l .most-tokens) in
+    let within : (t : ℕ) → List·Memᴰ t out → t < 256 = λ t m. omega (arith, output-from sc (b .args .outcome .status) (setOf (b .args .outcome .store)) t m .high, l .ports-known, l .most-tokens) in
     record {
       state-is = c .before .before .before .before .before .before .before .before .before .before .before .write-state .ensures ∙ ap (λ w. bytesOf (w ∷ agentWords (setOf (b .args .outcome .awake)))) (c .before .before .before .before .before .before .before .before .before .before .before .before .before .first-word .ensures);
       store-is = c .before .before .before .before .before .before .before .write-map .ensures;
-      output-is = c .before .before .write-map2 .ensures ∙ ap (λ r. mapOf (setOf r)) (c .before .before .before .before .sent .ensures (b .args .outcome .status)) ∙ mapOf-same (flags-back 256 out within);
+      output-is = c .before .before .write-map2 .ensures ∙ ap (λ r. mapOf (setOf r)) (c .before .before .before .before .sent .ensures) ∙ mapOf-same (flags-back 256 out within);
     }
 
 pub hand-over-spec : {M : Type 1} → statement M

@@ -34,7 +34,7 @@ returns c =
     let b = c .before .before .before .before .before .before .before .before .before .before .before .before in
     let o = c .before .before .before .before .before .before .before .before .answer-from in (
       stepped (b .args .score .now) (b .pre .1 .0) (stateIn (b .args .standing)) (b .pre .1 .1 .0) (b .args .told) (b .pre .1 .1 .1 .0) (o .result) (o .ensures .0)
-          _ refl (c .before .before .before .sent .ensures (o .result .status))
+          _ refl (c .before .before .before .sent .ensures)
           (by-head (λ h. any (λ i. leb (h .agents) i) (setOf (o .result .awake))) (b .pre .0) (c .before .any-from .ensures))
           (c .standing-after .ensures),
       o .ensures .1,

@@ -1,0 +1,4 @@
+pub mod Commands
+pub mod NothingInAClash
+pub mod NeverTogether
+pub mod OldJournals

@@ -1,0 +1,3 @@
+pub mod NothingInAClash
+pub mod NeverTogether
+pub mod OldJournals
