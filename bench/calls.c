@@ -99,11 +99,14 @@ static int has_unknown_token(const struct tokens *tokens, const struct score *sc
     return unknown != 0;
 }
 
-static void output_of(struct tokens *output, const struct score *score, const struct tokens *store)
+/* The store's tokens from the lowest to the highest port; a clash sends nothing. */
+static void output_of(struct tokens *output, const struct score *score, const struct end *end)
 {
     uint32_t i;
     for (i = 0; i < TOKENS_MAX / 64; i++)
-        output->words[i] = store->words[i] & between(i, score->lowest_port, score->highest_port);
+        output->words[i] = end->store.words[i] & between(i, score->lowest_port, score->highest_port);
+    if (end->status == CLASHED)
+        memset(output, 0, sizeof *output);
 }
 
 static void add_facts(struct tokens *told, const struct tokens *input, const struct tokens *facts)
@@ -173,7 +176,7 @@ uint64_t call_instant(const struct engine *engine, const uint8_t *score_bytes, s
     engine->prepare(&score, &index);
     clear(scratch);
     step(engine, &score, &index, &state, &input, scratch, &end);
-    output_of(&output, &score, &end.store);
+    output_of(&output, &score, &end);
     write_state(state_bytes, &state);
     write_map(store_bytes, &end.store);
     write_map(output_bytes, &output);
@@ -270,7 +273,7 @@ static uint64_t run_list(const struct engine *engine, const struct score *score,
         struct state next = *state;
         size_t behind = read_inputs(&input, inputs, words, at);
         step(engine, score, &index, &next, &input, scratch, &end);
-        output_of(&output, score, &end.store);
+        output_of(&output, score, &end);
         if (!write_instant(&journal, inputs + 4 * at, 4 * (behind - at), end.status, &output))
             return KEPT_FULL | written;
         at = behind;
@@ -341,7 +344,7 @@ static uint64_t compare_journal(const struct engine *engine, const struct score 
         uint32_t status = word_at(journal, at) & 3;
         size_t outputs = read_inputs(&input, journal, words, at);
         step(engine, score, &index, &state, &input, scratch, &end);
-        output_of(&output, score, &end.store);
+        output_of(&output, score, &end);
         at = match_outputs(journal, words, outputs, &output);
         if (status != end.status || at == 0)
             return KEPT_DIFFERS | alike;

@@ -61,7 +61,7 @@ static const size_t scratch_lengths[] = {0, 64, 127, 129, 132, 136, 2047, 2048};
 enum { SCRATCH_LENGTHS = sizeof scratch_lengths / sizeof *scratch_lengths };
 
 static uint8_t *places[BUFFERS];
-static uint64_t random_state, met[FUNCTIONS][NUMBERS], facts_met, watches_met;
+static uint64_t random_state, met[FUNCTIONS][NUMBERS], facts_met, watches_met, clashes_met, sent_clashes_met;
 static uint64_t scratch_lengths_met[FUNCTIONS][SCRATCH_LENGTHS];
 
 static void require(int holds, const char *broken)
@@ -244,7 +244,33 @@ static uint64_t judged(int function, struct lent *lent)
     return answer;
 }
 
-/* What an accepted instant has in its maps: each fact, or nothing once the score is aborted. */
+static int is_port(const struct bytes *score, uint32_t token)
+{
+    uint32_t ports = word_at(score, 1);
+    return token >= (ports & 0xFF) && token <= (ports >> 8 & 0xFF);
+}
+
+/* A clash has every token of the score in its store, and sends nothing. */
+static void require_clash(const struct bytes *of)
+{
+    uint32_t tokens = tokens_of(&of[SCORE]), token;
+    require(is_all(of[OUTPUT].at, SCORE_MAP_BYTES, 0), "a clash has an output");
+    for (token = 0; token < SCORE_MAX_TOKENS; token++)
+        require(has_token(&of[STORE], token) == (token < tokens), "the store of a clash is not all tokens");
+    clashes_met++;
+}
+
+/* A quiet instant without the clash sends the tokens of its store that are at the ports. */
+static void require_quiet(const struct bytes *of)
+{
+    uint32_t token;
+    require(!has_token(&of[STORE], 0), "a clash has status 0");
+    for (token = 0; token < SCORE_MAX_TOKENS; token++)
+        require(has_token(&of[OUTPUT], token) == (has_token(&of[STORE], token) && is_port(&of[SCORE], token)),
+                "the output is not what the store has at the ports");
+}
+
+/* What an accepted instant has in its maps: each fact, and what its status says; nothing once the score is aborted. */
 static void require_maps(const struct bytes *of, uint32_t status)
 {
     const struct bytes *score = &of[SCORE];
@@ -254,6 +280,10 @@ static void require_maps(const struct bytes *of, uint32_t status)
         require(is_all(of[OUTPUT].at, SCORE_MAP_BYTES, 0), "an aborted instant has an output");
         return;
     }
+    if (status == SCORE_CLASH)
+        require_clash(of);
+    else
+        require_quiet(of);
     for (; word < score->len / 4; word++) {
         if (!(word_at(score, word) & FACT))
             continue;
@@ -301,6 +331,21 @@ static size_t play(struct lent *one, size_t at, struct bytes *journal)
     return at;
 }
 
+static int is_instant(uint32_t word) { return (word & SCORE_KIND_MASK) == SCORE_INSTANT_WORD; }
+
+/* No clash of a journal of so many bytes shows outputs. */
+static void require_silent_clashes(const struct bytes *journal, size_t len)
+{
+    uint32_t status = SCORE_QUIET, word;
+    size_t at;
+    for (at = 0; at < len / 4; at++) {
+        word = word_at(journal, at);
+        if (is_instant(word))
+            status = word & SCORE_STATUS_MASK;
+        require(status != SCORE_CLASH || word < SCORE_OUTPUT_WORD, "a run shows outputs in a clash");
+    }
+}
+
 /* A run's instants are those that are played one by one: the same state and journal, and where the run was stopped the
  * next instant has no room. The bytes that the run wrote.
  */
@@ -317,6 +362,7 @@ static size_t require_run(const struct lent *before, const struct lent *after, u
     for (i = 0; i < written && at < words; i++)
         at = play(&one, at, &journal);
     len = journal.len;
+    require_silent_clashes(new, len <= new->len ? len : new->len);
     require(i == written && (at < words) == (score_answer_number(answer) == SCORE_ROOM), "not the list's instants");
     require(same(&one.of[STATE], &after->of[STATE]), "the run leaves another state than its instants");
     require(len <= new->len && !memcmp(journal.at, new->at, len), "the journal does not show the instants");
@@ -457,12 +503,51 @@ static void mutate(struct bytes *bytes, const struct bytes *other)
     }
 }
 
-/* The journal check of what a run from the start state wrote, and of a mutation of it. */
+/* Puts the words of all ports at the end of a journal's first clash, as document 01 has them. 0 where there is none, or
+ * no space; else its instant is told.
+ */
+static int send_first_clash(struct bytes *journal, const struct bytes *score, uint64_t *instant)
+{
+    size_t words = journal->len / 4, at = 0, behind;
+    uint32_t ports = word_at(score, 1), lowest = ports & 0xFF, highest = ports >> 8 & 0xFF, token;
+    *instant = 0;
+    while (at < words && word_at(journal, at) != (SCORE_INSTANT_WORD | SCORE_CLASH))
+        *instant += (uint64_t)is_instant(word_at(journal, at++));
+    if (at == words || words + highest - lowest + 1 > MOST / 4)
+        return 0;
+    do
+        at++;
+    while (at < words && !is_instant(word_at(journal, at)));
+    behind = journal->len - 4 * at;
+    memmove(journal->at + 4 * (at + highest - lowest + 1), journal->at + 4 * at, behind);
+    journal->len = 4 * at;
+    for (token = lowest; token <= highest; token++)
+        push(journal, SCORE_OUTPUT_WORD | token);
+    journal->len += behind;
+    return 1;
+}
+
+/* A journal that is right but for the outputs of its first clash is refused there. */
+static void judge_sent_clash(const struct lent *right)
+{
+    static struct lent lent;
+    uint64_t instant, answer;
+    lent = *right;
+    if (!send_first_clash(&lent.of[JOURNAL], &lent.of[SCORE], &instant))
+        return;
+    answer = judged(JOURNAL_CHECK, &lent);
+    require(score_answer_number(answer) == SCORE_JOURNAL, "a journal that shows outputs in a clash does not meet 14");
+    require(score_answer_value(answer) == instant, "the clash that shows outputs is another instant");
+    sent_clashes_met++;
+}
+
+/* The journal check of what a run from the start state wrote, of that with a clash sent, and of a mutation of it. */
 static void judge_journal(struct lent *lent, uint64_t written, const struct bytes *other)
 {
     uint64_t answer = judged(JOURNAL_CHECK, lent);
     require(!score_answer_number(answer), "a run's journal is refused");
     require(score_answer_value(answer) == written, "the journal check counts other instants than the run");
+    judge_sent_clash(lent);
     mutate(&lent->of[JOURNAL], other);
     (void)judged(JOURNAL_CHECK, lent);
 }
@@ -592,7 +677,15 @@ static void report_scratch_lengths(uint64_t rounds)
     }
 }
 
-/* Prints how often each number, a fact and a watch were met. Over many rounds, each that may be answered must be. */
+/* Prints how often something was met. Over many rounds it must be. */
+static void report_met(const char *what, uint64_t times, uint64_t rounds)
+{
+    printf("%s: %" PRIu64, what, times);
+    require(times || rounds < ROUNDS_THAT_MEET_ALL, ", which is never met");
+    printf("\n");
+}
+
+/* Prints how often each number, and what else must be, was met. Over many rounds, each that may be answered must be. */
 static void report(uint64_t rounds)
 {
     int function, number;
@@ -606,9 +699,10 @@ static void report(uint64_t rounds)
         }
         printf("\n");
     }
-    printf("facts: %" PRIu64 ", drafts with watches: %" PRIu64, facts_met, watches_met);
-    require((facts_met && watches_met) || rounds < ROUNDS_THAT_MEET_ALL, ", which is never met");
-    printf("\n");
+    report_met("facts", facts_met, rounds);
+    report_met("drafts with watches", watches_met, rounds);
+    report_met("clashes", clashes_met, rounds);
+    report_met("journals that show outputs in a clash", sent_clashes_met, rounds);
     report_scratch_lengths(rounds);
 }
 

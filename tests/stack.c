@@ -1,8 +1,8 @@
 /* stack.c: measures the stack that each call needs and holds it to what the header says.
  *
  * Usage: stack SCORE
- * Each call is measured on the score in the file and on one that is as large as a score can be; the translation also on
- * the longest chains of bodies and calls.
+ * Each call is measured on the score in the file and on ones that are as large as a score can be, in a clash and in an
+ * instant that sends what it can; the translation also on the longest chains of bodies and calls.
  */
 #include <stdio.h>
 #include <string.h>
@@ -37,9 +37,9 @@ static void put_word(uint8_t *bytes, size_t word, uint32_t value)
 }
 
 /* Every agent is a parallel of the one below it with agent 0, a tell; every procedure has the last one for its root;
- * every rule concludes a token of its own.
+ * every rule concludes a token of its own, from the lowest on, which is the clash or not.
  */
-static void build_largest(void)
+static void build_largest(uint32_t lowest)
 {
     uint32_t word = 0, i;
     put_word(score, word++, 0x10FFFFFF);
@@ -50,7 +50,7 @@ static void build_largest(void)
     for (i = 0; i < SCORE_MAX_PROCEDURES; i++)
         put_word(score, word++, 0x30000000 | (SCORE_MAX_AGENTS - 1));
     for (i = 0; i < SCORE_MAX_RULES; i++)
-        put_word(score, word++, 0x20010100 | i);
+        put_word(score, word++, 0x20010100 | (i < lowest ? lowest : i));
     score_len = SCORE_WORD_BYTES * word;
 }
 
@@ -171,17 +171,18 @@ static int translation_held(uint32_t number)
     return held_at(number, "score_translate", used_by(translate), SCORE_TRANSLATE_STACK_BYTES);
 }
 
-/* The input is token 0, the clash, so that as much happens as can. */
-static int all_held(void)
+/* The input is token 0, the clash, which answers all that waits, or token 1, with which outputs are sent. */
+static int all_held(uint32_t token)
 {
     int right;
     right = held("score_check", used_by(check), SCORE_CHECK_STACK_BYTES);
     start();
-    input[0] = 1;
+    input[0] = (uint8_t)(1 << token);
     right &= held("score_instant", used_by(instant), SCORE_INSTANT_STACK_BYTES);
+    right &= score_answer_status(answer) == (token == 0 ? SCORE_CLASH : SCORE_QUIET);
     start();
     put_word(inputs, 0, SCORE_INSTANT_WORD);
-    put_word(inputs, 1, SCORE_INPUT_WORD | 0);
+    put_word(inputs, 1, SCORE_INPUT_WORD | token);
     memset(journal, 0, sizeof journal);
     right &= held("score_run", used_by(run), SCORE_RUN_STACK_BYTES);
     for (journal_len = 0; journal_len < sizeof journal && word_at(journal, journal_len / SCORE_WORD_BYTES);)
@@ -213,9 +214,12 @@ int main(int count, char **arguments)
         return 2;
     score_len = fread(score, 1, sizeof score, file);
     fclose(file);
-    right = all_held();
-    build_largest();
-    right &= all_held();
+    right = all_held(0);
+    right &= all_held(1);
+    build_largest(0);
+    right &= all_held(0);
+    build_largest(1);
+    right &= all_held(1);
     right &= chains_held();
     return right ? 0 : 1;
 }

@@ -99,12 +99,11 @@ fn instant(score: &Decoded, state: &State, inputs: &[Token], random: &mut Random
     let (end, scratch) = (order.end(), order.scratch);
     let status = end.status();
     let End::Quiet { store, awake, .. } = end else { return aborted(scratch) };
-    let store: Vec<Token> = (0..score.tokens).filter(|&token| store[token]).collect();
     Instant {
         status,
         count: scratch.count(),
-        output: store.iter().copied().filter(|token| score.ports.contains(token)).collect(),
-        store,
+        output: engine::output(&store, &score.ports),
+        store: (0..score.tokens).filter(|&token| store[token]).collect(),
         next: State::Running(awake.into_iter().collect()),
         scratch,
     }

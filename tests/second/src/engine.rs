@@ -5,6 +5,7 @@ use crate::random::Random;
 use crate::scratch::Scratch;
 use crate::weight::Weights;
 use std::collections::BTreeSet;
+use std::ops::RangeInclusive;
 
 /// One copy in the multiset: an agent, or the tell of an input token.
 #[derive(Clone, Copy, PartialEq, Eq, PartialOrd, Ord, Hash, Debug)]
@@ -31,6 +32,14 @@ impl End {
             End::Quiet { store, .. } => u32::from(store[0]),
         }
     }
+}
+
+/// The output of a quiet instant: the store's tokens from lowest to highest port, or nothing where the clash is in it.
+pub fn output(store: &Store, ports: &RangeInclusive<Token>) -> Vec<Token> {
+    if store[0] {
+        return vec![];
+    }
+    ports.clone().filter(|&token| store[token]).collect()
 }
 
 #[derive(Clone)]

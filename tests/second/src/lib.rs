@@ -4,6 +4,7 @@ pub mod answer;
 pub mod calls;
 pub mod chains;
 pub mod circles;
+pub mod clash;
 pub mod decoded;
 pub mod draft;
 pub mod engine;

@@ -4,7 +4,7 @@
 use crate::decoded::Token;
 use crate::draft::order::{End, Order, Watched};
 use crate::draft::Draft;
-use crate::engine::HEAVIEST_FOLLOWED;
+use crate::engine::{output, HEAVIEST_FOLLOWED};
 use crate::lent::instant_bytes;
 use crate::random::Random;
 use crate::weight::Weights;
@@ -68,7 +68,7 @@ pub fn weight(weights: &mut Weights, agents: &[Watched], inputs: &[Token]) -> u6
 pub fn shown(draft: &Draft, inputs: &[Token], end: &End) -> Vec<u8> {
     let outputs: Vec<Token> = match end {
         End::Abort => vec![],
-        End::Quiet { store, .. } => draft.score.ports.clone().filter(|&token| store[token]).collect(),
+        End::Quiet { store, .. } => output(store, &draft.score.ports),
     };
     instant_bytes(end.status(), inputs, &outputs)
 }

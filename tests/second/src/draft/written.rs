@@ -37,6 +37,7 @@ fn telling(agents: &[u32], rules: &[u32]) -> Score {
 const QUIET: u32 = 0xC000_0000;
 const CLASH: u32 = 0xC000_0001;
 const ABORTED: u32 = 0xC000_0002;
+const IN_0: u32 = 0xD000_0000;
 const IN_2: u32 = 0xD000_0002;
 const IN_3: u32 = 0xD000_0003;
 const OUT_1: u32 = 0xE000_0001;
@@ -108,6 +109,7 @@ fn asking() -> Vec<Played> {
 fn endings() -> Vec<Played> {
     let clash = telling(&[watch(3, 4)], &[rule(0, 2, 2)]);
     let beside = telling(&[watch(3, 4), parallel(3, 4)], &[rule(0, 2, 2)]);
+    let clash_of_fact = telling(&[watch(3, 4)], &[fact(3), rule(0, 3, 2)]);
     let fact = telling(&[watch(3, 4)], &[fact(3), rule(4, 3, 3)]);
     let abort = telling(&[abort(), next(4), watch(5, 2), parallel(3, 6)], &[]);
     vec![
@@ -115,13 +117,13 @@ fn endings() -> Vec<Played> {
             "a clash stops all that stands under a watch",
             &clash,
             &[&[], &[2], &[]],
-            &[QUIET, OUT_1, CLASH, IN_2, OUT_1, OUT_2, OUT_3, QUIET],
+            &[QUIET, OUT_1, CLASH, IN_2, QUIET],
         ),
         played(
             "a clash stops nothing that stands under none",
             &beside,
             &[&[], &[2], &[]],
-            &[QUIET, OUT_1, CLASH, IN_2, OUT_1, OUT_2, OUT_3, QUIET, OUT_1],
+            &[QUIET, OUT_1, CLASH, IN_2, QUIET, OUT_1],
         ),
         played(
             "a fact that leads to the token stops after one instant",
@@ -129,6 +131,13 @@ fn endings() -> Vec<Played> {
             &[&[], &[]],
             &[QUIET, OUT_1, OUT_3, QUIET, OUT_3],
         ),
+        played(
+            "a fact is sent before a clash and after it, and what the clash stopped is not",
+            &clash_of_fact,
+            &[&[], &[2], &[]],
+            &[QUIET, OUT_1, OUT_3, CLASH, IN_2, QUIET, OUT_3],
+        ),
+        played("a draft that clashes in its first instant sends nothing", &clash, &[&[0], &[]], &[CLASH, IN_0, QUIET]),
         played(
             "an abort under a watch ends the score",
             &abort,

@@ -60,17 +60,22 @@ pub fn lent(score: &[u32], state: Vec<u8>, inputs: &[usize]) -> InstantLent {
     }
 }
 
+/// What an instant sends: in a clash nothing, else the store's tokens at the ports.
+fn output(score: &[u8], wanted: &Wanted) -> Vec<usize> {
+    let ports = Decoded::new(score).ports;
+    let is_sent = |token: &usize| wanted.status != 1 && ports.contains(token);
+    wanted.store.iter().copied().filter(is_sent).collect()
+}
+
 /// The buffers after an instant that brings about what is wanted.
 fn after(lent: &InstantLent, wanted: &Wanted) -> InstantLent {
-    let ports = Decoded::new(&lent.score).ports;
-    let output: Vec<usize> = wanted.store.iter().copied().filter(|token| ports.contains(token)).collect();
     let word_0 = if wanted.status == 2 { ABORTED } else { RUNNING };
     InstantLent {
         score: lent.score.clone(),
         state: state_bytes(word_0, wanted.awake.iter().copied()),
         input: lent.input.clone(),
         store: map_bytes(&wanted.store),
-        output: map_bytes(&output),
+        output: map_bytes(&output(&lent.score, wanted)),
         scratch: vec![0; SCRATCH_BYTES],
     }
 }
@@ -233,9 +238,9 @@ fn small() -> Vec<Case> {
             in_turn(met, &score, &[4], &[(&[0], quiet(3, &[0, 1, 2, 3], &[0]))])
         }),
         case("outputs are cut to the ports and the store is not", |met| {
-            let mut words = score(4, &[tell(0)], &[]);
+            let mut words = score(4, &[tell(1)], &[]);
             words[1] = ports(2, 2);
-            in_turn(met, &words, &[0], &[(&[], quiet(1, &[0, 1, 2, 3], &[]))])
+            in_turn(met, &words, &[0], &[(&[2, 3], quiet(1, &[1, 2, 3], &[]))])
         }),
         case("the clash of 256 tokens", |met| {
             let all: Vec<usize> = (0..256).collect();

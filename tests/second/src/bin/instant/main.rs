@@ -1,11 +1,14 @@
 //! Holds the library's score_instant to the second engine: every answer, and every byte of every buffer.
 
 mod cases;
+mod clash_cases;
+mod clash_trials;
 mod library;
 mod overlap;
 mod scratch_cases;
 mod trials;
 
+use second::clash::{CAUSES, PORTS};
 use second::tests::{self, Category, Tests, Trial};
 use std::process::ExitCode;
 
@@ -31,17 +34,20 @@ const CATEGORIES: &[Category<Trial>] = &[
     ("long chains of rules", 1_500, trials::long_chains),
     ("scratches of every length", 7_200, trials::scratch_lengths),
     ("scratches that hold the bits of the instant before", 4_000, trials::old_bits),
+    ("clashes in turn with other instants", 15_000, clash_trials::in_turn),
 ];
 
 fn test(tests: &mut Tests) {
     tests.cases(cases::all());
     tests.cases(scratch_cases::all());
+    tests.cases(clash_cases::all());
     tests.categories(CATEGORIES, |trial, met, random, index| trial(met, random, index));
     tests.require_numbers("instant", 0..=10);
     tests.require_facts("instant");
     tests.require_statuses();
     tests.require_scratch_lengths("instant");
     trials::OLD_BITS.iter().for_each(|what| tests.require_noted(what));
+    CAUSES.iter().chain(&PORTS).chain(&clash_trials::MET).for_each(|what| tests.require_noted(what));
 }
 
 fn main() -> ExitCode {

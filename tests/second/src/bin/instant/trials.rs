@@ -14,7 +14,7 @@ use second::{chains, every_order, lawful, scenes, words};
 use std::collections::HashSet;
 
 /// Holds the library to the second engine, between three kinds of guards.
-fn judge(
+pub fn judge(
     met: &mut Met,
     lent: &InstantLent,
     random: &mut Random,

@@ -6,7 +6,7 @@ use crate::runs::written;
 use second::answer::same;
 use second::calls::{instant_call, InstantLent, RunLent};
 use second::decoded::{Decoded, Token};
-use second::engine::End;
+use second::engine::{output, End};
 use second::guarded::GUARDS;
 use second::lent::*;
 use second::random::Random;
@@ -83,7 +83,7 @@ fn one_run(
 fn journal_of(score: &Decoded, inputs: &[Token], end: &End) -> Vec<u8> {
     let outputs: Vec<Token> = match end {
         End::Abort => vec![],
-        End::Quiet { store, .. } => score.ports.clone().filter(|&token| store[token]).collect(),
+        End::Quiet { store, .. } => output(store, &score.ports),
     };
     instant_bytes(end.status(), inputs, &outputs)
 }

@@ -22,17 +22,9 @@ pub fn all() -> Vec<Case> {
 
 const INPUTS: [&[usize]; 3] = [&[1], &[], &[1, 3]];
 
-pub const JOURNAL: [u32; 9] = [
-    0xC000_0000,
-    0xD000_0001,
-    0xE000_0002,
-    0xC000_0000,
-    0xC000_0001,
-    0xD000_0001,
-    0xD000_0003,
-    0xE000_0002,
-    0xE000_0003,
-];
+/// Of S over these inputs. The third instant is a clash and ends after its inputs.
+pub const JOURNAL: [u32; 7] =
+    [0xC000_0000, 0xD000_0001, 0xE000_0002, 0xC000_0000, 0xC000_0001, 0xD000_0001, 0xD000_0003];
 
 pub fn inputs() -> Vec<u32> {
     let list: Vec<Vec<usize>> = INPUTS.iter().map(|inputs| inputs.to_vec()).collect();
@@ -74,9 +66,12 @@ fn sample_run(met: &mut Met, room: usize, wanted: Answer, words: usize, state: V
 fn sample() -> Vec<Case> {
     let awake_2 = || state_bytes(RUNNING, [2]);
     vec![
-        case("S: the whole journal", move |met| sample_run(met, 65_536, Answer::Accepted(3), 9, awake_2())),
-        case("S, 36 journal bytes: all three", move |met| sample_run(met, 36, Answer::Accepted(3), 9, awake_2())),
-        case("S, 35 journal bytes: 15, two", move |met| sample_run(met, 35, refused(15, 2), 4, awake_2())),
+        case("S: the whole journal", move |met| sample_run(met, 65_536, Answer::Accepted(3), 7, awake_2())),
+        case("S, 36 journal bytes: all three, and the last 8 as they were", move |met| {
+            sample_run(met, 36, Answer::Accepted(3), 7, awake_2())
+        }),
+        case("S, 28 journal bytes: all three", move |met| sample_run(met, 28, Answer::Accepted(3), 7, awake_2())),
+        case("S, 27 journal bytes: 15, two", move |met| sample_run(met, 27, refused(15, 2), 4, awake_2())),
         case("S, 16 journal bytes: 15, two", move |met| sample_run(met, 16, refused(15, 2), 4, awake_2())),
         case("S, 15 journal bytes: 15, one", move |met| sample_run(met, 15, refused(15, 1), 3, awake_2())),
         case("S, 12 journal bytes: 15, one", move |met| sample_run(met, 12, refused(15, 1), 3, awake_2())),
@@ -139,7 +134,7 @@ fn aborted() -> Vec<Case> {
     ]
 }
 
-fn check(met: &mut Met, score: &[u32], journal: Vec<u8>, wanted: Answer) -> Outcome {
+pub fn check(met: &mut Met, score: &[u32], journal: Vec<u8>, wanted: Answer) -> Outcome {
     check_on(met, score, journal, vec![OLD; SCRATCH_BYTES], wanted)
 }
 
@@ -167,16 +162,16 @@ fn journals() -> Vec<Case> {
         only("no bytes: a journal of no instants", &[], Answer::Accepted(0)),
         only("S's journal", &JOURNAL, Answer::Accepted(3)),
         case("S's journal but its last byte: 12", |met| {
-            check(met, &S, to_bytes(&JOURNAL)[..35].to_vec(), refused(12, 0))
+            check(met, &S, to_bytes(&JOURNAL)[..27].to_vec(), refused(12, 0))
         }),
         case("S's journal but its last word: 14, instant 2", |met| {
-            check(met, &S, to_bytes(&JOURNAL[..8]), refused(14, 2))
+            check(met, &S, to_bytes(&JOURNAL[..6]), refused(14, 2))
         }),
         with("S's journal, status 1 for 0: 14, instant 1", 3, 0xC000_0001, refused(14, 1)),
         with("S's journal, status 3: 13", 4, 0xC000_0003, refused(13, 4)),
         with("S's journal, an output outside the ports: 14", 2, 0xE000_0001, refused(14, 0)),
-        with("S's journal, an output T: 13", 8, 0xE000_0004, refused(13, 8)),
-        with("S's journal, an input after an output: 13", 8, 0xD000_0003, refused(13, 8)),
+        with("S's journal, an output T: 13", 2, 0xE000_0004, refused(13, 2)),
+        with("S's journal, an input after an output: 13", 3, 0xD000_0003, refused(13, 3)),
         with("S's journal, another input with other outputs: 14", 1, 0xD000_0003, refused(14, 0)),
         only("13 in the last instant before 14 in the first", &[0xC000_0002, 0xC000_0003], refused(13, 1)),
         only("an output under status 2: 14", &[0xC000_0002, 0xE000_0002], refused(14, 0)),
@@ -231,14 +226,14 @@ fn facts() -> Vec<Case> {
         }),
         case("a fact clashes where the other premise is told", move |met| {
             let score = [&S[..], &[fact(3)]].concat();
-            let journal = [(0, 0xC000_0001), (6, 0xC000_0001)];
+            let quiet = [0xC000_0000, 0xE000_0003];
+            let journal = [&[0xC000_0001, 0xD000_0001], &quiet[..], &[0xC000_0001, 0xD000_0001, 0xD000_0003]].concat();
             let lent = lent(&score, start(), &inputs(), 64);
-            run(met, &lent, Answer::Accepted(3), &replaced(&JOURNAL_WITH_FACT, &journal), &awake_2())
+            run(met, &lent, Answer::Accepted(3), &journal, &awake_2())
         }),
         case("a fact of token 0 is a clash at every instant", move |met| {
             let lent = lent(&replaced(&S, &[(8, fact(0))]), start(), &two, 64);
-            let clash = [0xC000_0001, 0xE000_0002, 0xE000_0003];
-            run(met, &lent, Answer::Accepted(2), &[clash, clash].concat(), &awake_2())
+            run(met, &lent, Answer::Accepted(2), &[0xC000_0001, 0xC000_0001], &awake_2())
         }),
         case("a fact outside the ports shows in no instant", move |met| {
             let lent = lent(&replaced(&S, &[(1, ports(2, 2)), (8, fact(3))]), start(), &two, 64);
@@ -261,7 +256,7 @@ fn facts() -> Vec<Case> {
 }
 
 /// A journal without the word at a place.
-fn without(journal: &[u32], at: usize) -> Vec<u8> {
+pub fn without(journal: &[u32], at: usize) -> Vec<u8> {
     to_bytes(&[&journal[..at], &journal[at + 1..]].concat())
 }
 
@@ -293,8 +288,7 @@ fn journals_with_facts() -> Vec<Case> {
             check(met, &S, to_bytes(&JOURNAL_WITH_FACT), refused(14, 0))
         }),
         case("status 0 where a fact is the clash: 14", |met| {
-            let journal = to_bytes(&[0xC000_0000, 0xE000_0002, 0xE000_0003]);
-            check(met, &replaced(&S, &[(8, fact(0))]), journal, refused(14, 0))
+            check(met, &replaced(&S, &[(8, fact(0))]), to_bytes(&[0xC000_0000]), refused(14, 0))
         }),
         case("the journal of an abort beside a fact", |met| {
             check(met, &s_aborting_with_fact(), to_bytes(&ABORTED_JOURNAL), Answer::Accepted(3))
@@ -351,22 +345,24 @@ fn large_values() -> Vec<Case> {
 /// How many instants a chain is run for.
 const FALLS: usize = 2;
 
-/// The words of an instant of a chain, all of whose tokens are at the ports.
-fn fall(chain: Chain) -> Vec<u32> {
+/// The words of an instant of a chain that shows these tokens.
+fn fall(chain: Chain, outputs: &[usize]) -> Vec<u32> {
     let status = u32::from(chain.lowest == 0);
-    second::oracle::words(&instant_bytes(status, &chain.inputs(), &chain.store()))
+    second::oracle::words(&instant_bytes(status, &chain.inputs(), outputs))
 }
 
-/// A run of a chain from the start state; its journal, which is accepted; and one whose last instant lacks the token
-/// that comes last, which is not.
+/// A run of a chain from the start state, all of whose tokens are at the ports; its journal, which is accepted; and one
+/// that is not, whose last instant lacks the token that comes last, or in a clash shows it.
 fn falls(met: &mut Met, chain: Chain) -> Outcome {
     let score = second::oracle::words(&chain.score());
     let list = second::oracle::words(&list_bytes(&vec![chain.inputs(); FALLS]));
-    let journal = fall(chain).repeat(FALLS);
+    let store = chain.store();
+    let (shown, wrong) = if chain.lowest == 0 { (&[][..], &store[..1]) } else { (&store[..], &store[1..]) };
+    let journal = fall(chain, shown).repeat(FALLS);
     let start = State::start(&Decoded::new(&chain.score())).bytes();
     let lent = lent(&score, start, &list, 4 * journal.len() + 8);
     run(met, &lent, Answer::Accepted(FALLS as u64), &journal, &state_bytes(RUNNING, [CALL]))?;
     check(met, &score, to_bytes(&journal), Answer::Accepted(FALLS as u64))?;
-    let lowest = journal.len() - chain.store().len();
-    check(met, &score, without(&journal, lowest), refused(14, FALLS as u64 - 1))
+    let all_but_last = fall(chain, shown).repeat(FALLS - 1);
+    check(met, &score, to_bytes(&[all_but_last, fall(chain, wrong)].concat()), refused(14, FALLS as u64 - 1))
 }

@@ -4,6 +4,8 @@
 mod added_fact;
 mod calls_in_turn;
 mod cases;
+mod clash_cases;
+mod clash_trials;
 #[path = "../instant/library.rs"]
 mod instant;
 mod journals;
@@ -13,6 +15,7 @@ mod runs;
 mod scratch_cases;
 mod short;
 
+use second::clash::{CAUSES, PORTS};
 use second::tests::{self, Category, Tests, Trial};
 use std::process::ExitCode;
 
@@ -54,11 +57,19 @@ const CATEGORIES: &[Category<Trial>] = &[
     ("journals with scratches of every length", 7_200, journals::with_scratch_lengths),
     ("runs on the bits of an instant", 3_000, runs::on_old_bits),
     ("journals on the bits of an instant", 3_000, journals::on_old_bits),
+    ("runs with clashes", 5_000, clash_trials::runs),
+    ("runs that end at a clash", 1_500, clash_trials::rooms),
+    ("journals that show outputs in every clash, and those without them", 2_000, clash_trials::old_journals),
+    ("journals that show outputs in one of several clashes", 3_000, clash_trials::one_clash_sent),
+    ("journals with an output added to a clash", 2_000, clash_trials::output_added),
+    ("journals with a wrong instant before a clash that is sent", 2_500, clash_trials::wrong_before),
+    ("journals that lack outputs of a quiet instant", 5_000, clash_trials::outputs_taken_out),
 ];
 
 fn test(tests: &mut Tests) {
     tests.cases(cases::all());
     tests.cases(scratch_cases::all());
+    tests.cases(clash_cases::all());
     tests.categories(CATEGORIES, |trial, met, random, index| trial(met, random, index));
     tests.require_numbers("run", (0..=9).chain([12, 13, 15]));
     tests.require_numbers("journal check", (0..=8).chain(12..=14));
@@ -67,6 +78,7 @@ fn test(tests: &mut Tests) {
     tests.require_facts_added();
     tests.require_scratch_lengths("run");
     tests.require_scratch_lengths("journal check");
+    CAUSES.iter().chain(&PORTS).chain(&clash_trials::MET).for_each(|what| tests.require_noted(what));
 }
 
 fn main() -> ExitCode {

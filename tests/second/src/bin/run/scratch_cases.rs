@@ -77,16 +77,16 @@ fn contents() -> Vec<Case> {
     vec![
         case("a run of S on zeros, ones and the bits of its instants, to its end and to 15", move |met| {
             scratches().into_iter().try_for_each(|scratch| {
-                let whole = RunLent { scratch: scratch.clone(), ..lent(&S, start(), &inputs(), 36) };
+                let whole = RunLent { scratch: scratch.clone(), ..lent(&S, start(), &inputs(), 28) };
                 run(met, &whole, Answer::Accepted(3), &JOURNAL, &awake_2())?;
-                let stopped = RunLent { scratch, ..lent(&S, start(), &inputs(), 35) };
+                let stopped = RunLent { scratch, ..lent(&S, start(), &inputs(), 27) };
                 run(met, &stopped, refused(15, 2), &JOURNAL[..4], &awake_2())
             })
         }),
         case("a journal check of S on zeros, ones and the bits of its instants, to its end and to 14", |met| {
             scratches().into_iter().try_for_each(|scratch| {
                 check_on(met, &S, to_bytes(&JOURNAL), scratch.clone(), Answer::Accepted(3))?;
-                check_on(met, &S, to_bytes(&JOURNAL[..8]), scratch, refused(14, 2))
+                check_on(met, &S, to_bytes(&JOURNAL[..6]), scratch, refused(14, 2))
             })
         }),
         case("a run and a journal check of no instants clear the scratch", |met| {

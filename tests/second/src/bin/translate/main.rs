@@ -48,6 +48,7 @@ const CATEGORIES: &[Category<Trial>] = &[
     ("large drafts played", 100, plays::large_drafts),
     ("long plays", 30, plays::long),
     ("drafts in the other calls", 2_000, plays::other_calls),
+    ("journals of drafts", 5_000, plays::journals),
 ];
 
 fn test(tests: &mut Tests) {
@@ -66,6 +67,7 @@ fn test(tests: &mut Tests) {
         tests.require_noted(what);
     }
     tests.require_noted(plays::REFUSED_BY_ALL);
+    tests.require_noted(plays::OLD_JOURNAL);
 }
 
 fn main() -> ExitCode {

@@ -1,8 +1,9 @@
 //! Drafts played by their own definition, and their translations played by the library.
 
 use crate::{check, instant, judge, run};
-use second::answer::{same, Answer, ACCEPTED};
+use second::answer::{refused, same, Answer, ACCEPTED};
 use second::calls::{instant_call, journal_check_call, run_call, InstantLent, JournalCheckLent, RunLent};
+use second::clash;
 use second::decoded::{Decoded, Token};
 use second::draft::order::End;
 use second::draft::{acts, player, scenes, Draft};
@@ -96,6 +97,31 @@ pub fn long(met: &mut Met, random: &mut Random, _: u64) -> Outcome {
     let draft = acts::many(random);
     play(met, random, &draft, 500)
 }
+
+/// The library's check of a journal of a plain score.
+fn check_answers(random: &mut Random, plain: &[u8], journal: Vec<u8>, wanted: Answer) -> Outcome {
+    let lent = JournalCheckLent { score: plain.to_vec(), journal, scratch: dirt(random, SCRATCH_BYTES) };
+    let (answer, _) = run::journal_check(&lent, random.below(8) as usize, random.pick(&GUARDS))?;
+    same(answer, wanted).map_err(|difference| format!("journal check: {difference}{}", shown(&lent)))
+}
+
+/// A draft's journal is accepted of its translation; where it has a clash, the same with its ports sent is 14 there.
+pub fn journals(met: &mut Met, random: &mut Random, _: u64) -> Outcome {
+    let bytes = acts::many(random);
+    let Some(plain) = translated(met, random, &bytes)? else { return Ok(()) };
+    let draft = Draft::new(&bytes);
+    let list = scenes::instants(random, &draft, 12);
+    let journal = player::journal(&draft, &list, random).concat();
+    let clashes = clash::clashes(&journal);
+    if let Some(&first) = clashes.first() {
+        let old = clash::sent(&draft.score, &journal, &clashes);
+        check_answers(random, &plain, old, refused(14, first as u64))?;
+        met.note(OLD_JOURNAL);
+    }
+    check_answers(random, &plain, journal, Answer::Accepted(list.len() as u64))
+}
+
+pub const OLD_JOURNAL: &str = "a draft's journal that shows outputs in a clash";
 
 /// In the other calls a watch is a word of a wrong kind.
 pub fn other_calls(met: &mut Met, random: &mut Random, _: u64) -> Outcome {
