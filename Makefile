@@ -14,7 +14,7 @@ RUNNER = target/bin/runner
 # Where make install puts things: include/, lib/, lib/pkgconfig/ and bin/ in it. DESTDIR is put before it.
 PREFIX = /usr/local
 prefix = $(abspath $(PREFIX))
-VERSION = 3.0.0
+VERSION = 3.1.0
 
 # A library made of an engine that is written by hand, passes or linear, for trying the tests.
 ENGINE = linear
@@ -22,7 +22,7 @@ standin = build/standin-$(ENGINE)
 
 .PHONY: all run check-example test bench install clean library runner standin
 
-all: library runner build/check build/console build/translate
+all: library runner build/check build/console build/settings build/translate
 
 run: runner
 	cd sample && $(abspath $(RUNNER))
@@ -51,7 +51,7 @@ install: library runner
 clean:
 	rm -rf build target
 
-build/check build/console build/translate: library
+build/check build/console build/settings build/translate: library
 	mkdir -p build
 	$(CC) $(CFLAGS) examples/$(@F).c $(archive) -o $@
 
@@ -68,6 +68,7 @@ standin:
 	cd $(standin) && $(CC) $(CFLAGS) -I../../include -Dbaseline_check=score_check \
 	    -Dbaseline_check_draft=standin_check_draft -Dbaseline_translate=score_translate \
 	    -D$(ENGINE)_instant=score_instant -D$(ENGINE)_run=score_run -D$(ENGINE)_journal_check=score_journal_check \
+	    -D$(ENGINE)_settings=score_settings \
 	    -c ../../bench/baseline.c ../../bench/translate.c ../../bench/calls.c ../../bench/$(ENGINE).c
 	rm -f $(standin)/libscore.a
 	ar rcs $(standin)/libscore.a $(standin)/*.o

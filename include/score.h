@@ -1,9 +1,9 @@
 /* score.h: the score engine.
  *
- * Five functions: score_check, score_instant, score_run and score_journal_check for a console, and score_translate
- * for the desk at which scores are written. Each is lent buffers for the call and returns an answer of 64 bits,
- * which the functions at the end of this file take apart. They use no heap and no global state, and keep nothing of
- * what they were lent.
+ * Six functions: score_check, score_instant, score_run and score_journal_check for a console, score_settings for the
+ * rigger who wants to know before a tour how switches may be pressed, and score_translate for the desk at which
+ * scores are written. Each is lent buffers for the call and returns an answer of 64 bits, which the functions at the
+ * end of this file take apart. They use no heap and no global state, and keep nothing of what they were lent.
  *
  * A caller has three duties:
  *   - a pointer and its length describe memory that is there; with length 0 the pointer may be null;
@@ -78,10 +78,13 @@ extern "C" {
 #define SCORE_MAX_LIST_INSTANT_BYTES 1028
 #define SCORE_MAX_JOURNAL_INSTANT_BYTES 2052
 
+/* The most switches that score_settings takes. */
+#define SCORE_MAX_SWITCHES 16
+
 /* The numbers of answers. */
 enum {
     SCORE_ACCEPTED = 0,     /* value: the instants written by a run, or read by a journal check; the bytes of a plain
-                               score */
+                               score; 0 of an instant and of settings, which have counts of their own */
     SCORE_LENGTH = 1,       /* score: no bytes, not a multiple of 4, or more than SCORE_MAX_BYTES */
     SCORE_HEAD = 2,         /* score: word 0 is not a head, or has an unnamed bit set */
     SCORE_COUNT = 3,        /* score: fewer than 2+N+P words, or more than 2+N+P+256 */
@@ -101,8 +104,10 @@ enum {
                                such word */
     SCORE_JOURNAL = 14,     /* the journal is not what the run writes; value: the first such instant */
     SCORE_ROOM = 15,        /* the next instant's words exceed the journal bytes left; value: the instants written */
-    SCORE_LARGE = 16        /* the plain score of a draft would have more than SCORE_MAX_TOKENS, SCORE_MAX_AGENTS,
+    SCORE_LARGE = 16,       /* the plain score of a draft would have more than SCORE_MAX_TOKENS, SCORE_MAX_AGENTS,
                                SCORE_MAX_PROCEDURES or SCORE_MAX_RULES */
+    SCORE_SWITCHES = 17     /* more than SCORE_MAX_SWITCHES switches, one that is listed twice, one that is T or above,
+                               or more to be pressed than there are */
 };
 
 /* The statuses of instants. */
@@ -117,6 +122,7 @@ enum {
 #define SCORE_INSTANT_STACK_BYTES 20480
 #define SCORE_RUN_STACK_BYTES 22528
 #define SCORE_JOURNAL_CHECK_STACK_BYTES 22528
+#define SCORE_SETTINGS_STACK_BYTES 18432
 #define SCORE_TRANSLATE_STACK_BYTES 524288 /* at the desk; it copies agents by calling itself */
 
 /* Checks a score. Reads score[0 .. score_len) and writes nothing.
@@ -214,6 +220,25 @@ SCORE_MUST_USE uint64_t score_run(const uint8_t *score, size_t score_len, uint8_
 SCORE_MUST_USE uint64_t score_journal_check(const uint8_t *score, size_t score_len, const uint8_t *journal,
                                             size_t journal_len, uint8_t *scratch, size_t scratch_len);
 
+/* Counts how many settings of some switches end with each status. A setting is a set of exactly k of the switches. Each
+ * is tried as score_instant plays an instant from the same state with exactly these tokens as input: no setting
+ * leaves anything to the next. Writes nothing.
+ *
+ * Lent and only read:
+ *   score     which is checked first, as score_check does;
+ *   state     from which each setting is tried;
+ *   switches  a byte for each switch, its token; at most SCORE_MAX_SWITCHES, each listed once, in any order.
+ *
+ * The answer's number is 0 (accepted) or one of 1 to 9 and 17, tried in this order. Its value is that of score_check
+ * for 1 to 7, and 0 otherwise. Of an accepted answer, score_settings_count gives the settings that end with status 0,
+ * with 1 and with 2: together all the settings that there are, at most 12,870 (8 of 16 switches). With k = 0 there is
+ * one, none pressed. From an aborted state all settings end with status 2; it switches off no test.
+ *
+ * A call plays as many instants as there are settings, and takes as long.
+ */
+SCORE_MUST_USE uint64_t score_settings(const uint8_t *score, size_t score_len, const uint8_t *state, size_t state_len,
+                                       const uint8_t *switches, size_t switches_len, uint32_t k);
+
 /* Translates a draft to a plain score, which plays as the draft is meant to: on every input list over the draft's
  * tokens its journal from the start state is the draft's.
  *
@@ -241,14 +266,15 @@ SCORE_MUST_USE uint64_t score_translate(const uint8_t *draft, size_t draft_len, 
 /* An answer's top three bits say how the rest is laid out: 0, accepted, with the value in bits 60..0;
  * 1, the number in bits 7..0, the value in bits 31..8, and of an accepted instant, whose number is 0, the status in
  * bits 33..32 and the count in bits 44..34; 2, 3 and 4, the numbers 13, 14 and 15, whose value may be as large as a
- * buffer's count of words, in bits 60..0.
+ * buffer's count of words, in bits 60..0; 5, accepted settings, with the count of status 0 in bits 13..0, of 1 in
+ * bits 27..14 and of 2 in bits 41..28. No answer has 6 or 7 there.
  */
 
 /* 0 for accepted, or the number of the refusal. */
 static inline uint32_t score_answer_number(uint64_t answer)
 {
     uint32_t layout = (uint32_t)(answer >> 61);
-    if (layout == 0)
+    if (layout == 0 || layout == 5)
         return SCORE_ACCEPTED;
     if (layout == 1)
         return (uint32_t)(answer & 0xFF);
@@ -258,8 +284,11 @@ static inline uint32_t score_answer_number(uint64_t answer)
 /* The word, procedure, instant, count of instants or of bytes that the number speaks of; 0 where it speaks of none. */
 static inline uint64_t score_answer_value(uint64_t answer)
 {
-    if (answer >> 61 == 1)
+    uint32_t layout = (uint32_t)(answer >> 61);
+    if (layout == 1)
         return answer >> 8 & 0xFFFFFF;
+    if (layout == 5)
+        return 0;
     return answer & ((UINT64_C(1) << 61) - 1);
 }
 
@@ -276,6 +305,14 @@ static inline uint32_t score_answer_count(uint64_t answer)
 {
     if (answer >> 61 == 1)
         return (uint32_t)(answer >> 34 & 0x7FF);
+    return 0;
+}
+
+/* How many settings end with a status; 0 where no settings were counted. */
+static inline uint32_t score_settings_count(uint64_t answer, uint32_t status)
+{
+    if (answer >> 61 == 5 && status <= SCORE_ABORTED)
+        return (uint32_t)(answer >> 14 * status & 0x3FFF);
     return 0;
 }
 

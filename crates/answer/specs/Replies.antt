@@ -3,6 +3,7 @@
 --     ofReply        the reply of an instant call
 --     ofRunReply     the reply of a run or a journal check
 --     ofTranslation  the reply of a translation
+--     ofSettings     the reply of a count of settings
 use Rattle.verdicts.specs.declared.Verdict.{Verdict}
 use Rattle.verdicts.specs.Verdicts.{numberOf, valueOf}
 use Rattle.instant.specs.declared.Reply.{Reply as InstantReply}
@@ -11,7 +12,9 @@ use Rattle.history.specs.declared.Reply.{Reply as RunReply}
 use Rattle.history.specs.declared.Reply.the-variants as runs
 use Rattle.translation.specs.declared.Reply.{Reply as TranslationReply}
 use Rattle.translation.specs.declared.Reply.the-variants as translations
-use Rattle.answer.specs.Answer.{Reply, reply, accepted, refused, settled}
+use Rattle.counting.specs.declared.Reply.{Reply as SettingsReply}
+use Rattle.counting.specs.declared.Reply.the-variants as settings
+use Rattle.answer.specs.Answer.{Reply, reply, accepted, refused, settled, counted}
 
 abbrev pub ofVerdict : Verdict → Reply
 ofVerdict v = reply (numberOf v) (valueOf v)
@@ -40,3 +43,10 @@ ofTranslation (translations.Draft v) = ofVerdict v
 ofTranslation translations.Lengths = refused 8 0
 ofTranslation translations.Large = refused 16 0
 ofTranslation (translations.Written n) = accepted n
+
+abbrev pub ofSettings : SettingsReply → Reply
+ofSettings (settings.Score v) = ofVerdict v
+ofSettings settings.Lengths = refused 8 0
+ofSettings settings.State = refused 9 0
+ofSettings settings.Switches = refused 17 0
+ofSettings (settings.Counted c) = counted (c .quiet) (c .clashed) (c .aborted)

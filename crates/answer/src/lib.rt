@@ -1,9 +1,10 @@
 ghost use mathlib.Core.Path.{_≡_};
 ghost use mathlib.Core.Bool.{false};
 ghost use Prim.Native.Nat.{_<_, _≤_, _^_};
-ghost use Rattle.answer.specs.Answer.{refused, settled, packed, isWide, Fits};
-ghost use Rattle.answer.specs.Replies.{ofVerdict, ofReply, ofRunReply, ofTranslation};
+ghost use Rattle.answer.specs.Answer.{refused, settled, counted, packed, isWide, Fits};
+ghost use Rattle.answer.specs.Replies.{ofVerdict, ofReply, ofRunReply, ofTranslation, ofSettings};
 use instant::Reply;
+use settings::Counts;
 use verdicts::Verdict;
 
 // A verdict as an answer.
@@ -64,6 +65,20 @@ pub fn of_translation(reply: translation::Reply) -> u64
     }
 }
 
+// The reply of a count of settings as an answer.
+pub fn of_settings(reply: counting::Reply) -> u64
+    requires { ⌜ Fits (ofSettings reply) ⌝ }
+    ensures { λ r. ⌜ r ≡ packed (ofSettings reply) ⌝ }
+{
+    match reply {
+        counting::Reply::Score(verdict) => of_verdict(verdict),
+        counting::Reply::Lengths => refusal(8, 0),
+        counting::Reply::State => refusal(9, 0),
+        counting::Reply::Switches => refusal(17, 0),
+        counting::Reply::Counted(counts) => of_counts(counts),
+    }
+}
+
 // An answer whose number may have a large value.
 fn wide(number: usize, value: usize) -> u64
     requires { ⌜ 13 ≤ number ⌝ }
@@ -91,4 +106,17 @@ fn settling(status: usize, count: usize) -> u64
     ensures { λ r. ⌜ r ≡ packed (settled status count) ⌝ }
 {
     0x2000_0000_0000_0000 + status as u64 * 0x1_0000_0000 + count as u64 * 0x4_0000_0000
+}
+
+// The answer of settings that were counted.
+fn of_counts(counts: Counts) -> u64
+    requires { ⌜ counts .quiet < 2 ^ 14 ⌝ }
+    requires { ⌜ counts .clashed < 2 ^ 14 ⌝ }
+    requires { ⌜ counts .aborted < 2 ^ 14 ⌝ }
+    ensures { λ r. ⌜ r ≡ packed (counted (counts .quiet) (counts .clashed) (counts .aborted)) ⌝ }
+{
+    0xA000_0000_0000_0000
+        + counts.aborted as u64 * 0x1000_0000
+        + counts.clashed as u64 * 0x4000
+        + counts.quiet as u64
 }

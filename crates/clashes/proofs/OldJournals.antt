@@ -17,6 +17,7 @@ use Rattle.tcc.specs.Lawful.{Lawful}
 use Rattle.tcc.specs.Instant.{Answer, State, output, startState, answer, after, answers}
 use Rattle.tcc.proofs.Output.{output-clash, output-else, output-has}
 use Rattle.tcc.proofs.Unaborted.{unaborted, all-stored}
+use Rattle.tcc.proofs.Status.{answer-status}
 use Rattle.words.specs.Word.{words}
 use Rattle.format.specs.Decode.{sizes, decode}
 use Rattle.format.proofs.Decode.{decode-tokens}
@@ -32,7 +33,6 @@ use Rattle.journal.specs.History.{instantWords, entry, history, Rising}
 use Rattle.journal.proofs.Rising.{output-rising}
 use Rattle.journal.proofs.Forms.{WellFormed}
 use Rattle.journal.proofs.Formed.{words-inputs, words-outputs, words-formed, formed-good, formed-instants}
-use Rattle.journal.proofs.Histories.{answer-status}
 use Rattle.history.specs.declared.Reply.the-variants.{Differs}
 use Rattle.history.specs.AnswerIn.{answerIn}
 use Rattle.history.specs.ByForm.{byForm}

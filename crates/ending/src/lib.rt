@@ -1,8 +1,9 @@
 ghost use mathlib.Core.Path.{_≡_};
 ghost use Prim.Native.Nat.{_*_, _<_};
 ghost use lib.ListN.{length};
+ghost use Rattle.laws.specs.Sets.{any};
 ghost use Rattle.tcc.specs.Score.{agentAt};
-ghost use Rattle.tcc.specs.Instant.{leaves};
+ghost use Rattle.tcc.specs.Instant.{isAbort, leaves};
 ghost use Rattle.format.specs.Decode.{sizes, decode};
 ghost use Rattle.format.specs.Playable.{Playable};
 ghost use Rattle.store.specs.Flags.{setOf};
@@ -128,5 +129,36 @@ fn fate_of(s: &[u8], head: Sizes, i: usize, held: &Tokens, awake: &mut Agents) -
             Fate::Stays
         }
         _ => Fate::Reduced,
+    }
+}
+
+// Whether a live agent aborts.
+pub fn any_aborts(s: &[u8], head: Sizes, live: &Agents) -> bool
+    requires { ⌜ head ≡ sizes (now s) ⌝ }
+    requires { ⌜ Playable (now s) ⌝ }
+    ensures { λ r. ⌜ r ≡ any (λ i. isAbort (agentAt (decode (now (s .entry))) i)) (setOf (now (live .entry))) ⌝ }
+{
+    let mut i = head.agents;
+    while 0 < i {
+        i -= 1;
+        if live[i] {
+            if aborts(s, head, i) {
+                return true;
+            }
+        }
+    }
+    false
+}
+
+// Whether agent i aborts.
+fn aborts(s: &[u8], head: Sizes, i: usize) -> bool
+    requires { ⌜ head ≡ sizes (now s) ⌝ }
+    requires { ⌜ Playable (now s) ⌝ }
+    requires { ⌜ i < head .agents ⌝ }
+    ensures { λ r. ⌜ r ≡ isAbort (agentAt (decode (now (s .entry))) i) ⌝ }
+{
+    match format::agent_at(s, i) {
+        Agent::Abort => true,
+        _ => false,
     }
 }

@@ -1,8 +1,8 @@
 -- What the engine returns is the instant's answer.
 --     flags-none         no flag is set for the empty set
 --     flags-same         sets with the same members have the same flags
---     aborted-outcome    marks with a live abort
---     quiet-outcome      marks without
+--     aborted-outcome, aborted-status     marks with a live abort
+--     quiet-outcome, quiet-status         marks without
 use mathlib.Core.Path.{_≡_, refl, sym, ap, subst, _∙_}
 use mathlib.Core.Bool.{Bool, true, false, cond}
 use mathlib.Core.List.{List, [], List·Memᴰ}
@@ -37,13 +37,16 @@ module _ (sc : Score) (agents inputs lives : List ℕ) (held : List Bool) (fixed
   unfolding outcomeOf
   aborted-outcome e = ap (λ s. outcome 2 0 s (replicate 1024 false)) (flags-none 256) ∙ ap (outcome 2 0 (flagsOf 256 [])) (flags-none 1024) ∙ ap outcomeOf (sym (aborts-so sc agents inputs lives (setOf held) fixed e))
 
+  pub aborted-status : true ≡ Aborting → 2 ≡ instant sc agents inputs .status
+  aborted-status e = sym (ap (λ a. a .status) (aborts-so sc agents inputs lives (setOf held) fixed e))
+
   module _ (none : false ≡ Aborting) where
     quiet : Settled sc lives (setOf held) (instant sc agents inputs)
     quiet = settled-so sc agents inputs lives (setOf held) fixed none
 
-    same-status : (b : Bool) → getD held 0 false ≡ b → cond b 1 0 ≡ instant sc agents inputs .status
-    same-status true e = sym (quiet .clash (flag-member held e))
-    same-status false e = sym (quiet .no-clash (λ m. true-is-false (member-flag held m) e))
+    pub quiet-status : (b : Bool) → getD held 0 false ≡ b → cond b 1 0 ≡ instant sc agents inputs .status
+    quiet-status true e = sym (quiet .clash (flag-member held e))
+    quiet-status false e = sym (quiet .no-clash (λ m. true-is-false (member-flag held m) e))
 
     pub quiet-outcome : (status count : ℕ) (awake : List Bool) → length held ≡ 256 → status ≡ cond (getD held 0 false) 1 0 →
         ((instant sc agents inputs .status ≡ 2 → ⊥) → count ≡ length (instant sc agents inputs .reduced)) → awake ≡ flagsOf 1024 (leftAwake sc (setOf held) lives) →
@@ -51,7 +54,7 @@ module _ (sc : Score) (agents inputs lives : List ℕ) (held : List Bool) (fixed
     unfolding outcomeOf
     quiet-outcome status count awake long p q r =
         let a = instant sc agents inputs in
-        let p′ : status ≡ a .status = p ∙ same-status (getD held 0 false) refl in
+        let p′ : status ≡ a .status = p ∙ quiet-status (getD held 0 false) refl in
         let q′ : count ≡ length (a .reduced) = q (quiet .unaborted) in
         let s′ : held ≡ flagsOf 256 (a .store) = flags-settled 256 (a .store) held long (λ i lt. quiet .same-store i) in
         let r′ : awake ≡ flagsOf 1024 (a .awake) = r ∙ flags-same 1024 (quiet .same-awake) in

@@ -51,6 +51,24 @@ pub fn play(s: &[u8], head: Sizes, agents: Agents, inputs: Tokens, scratch: &mut
     }
 }
 
+// The status alone of such an instant.
+pub fn status_of(s: &[u8], head: Sizes, agents: &Agents, inputs: &Tokens) -> usize
+    requires { ⌜ head ≡ sizes (now s) ⌝ }
+    requires { ⌜ Playable (now s) ⌝ }
+    requires { ⌜ length (now agents) ≡ 1024 ⌝ }
+    ensures { λ r. ⌜ r ≡ instant (decode (now (s .entry))) (setOf (now (agents .entry))) (setOf (now (inputs .entry))) .status ⌝ }
+{
+    let mut live = *agents;
+    let held = settle(s, head, &mut live, *inputs);
+    if ending::any_aborts(s, head, &live) {
+        return 2;
+    }
+    if held[0] {
+        return 1;
+    }
+    0
+}
+
 // Passes until there is nothing to add; marks the agents that come alive, and returns the tokens held.
 fn settle(s: &[u8], head: Sizes, live: &mut Agents, inputs: Tokens) -> Tokens
     requires { ⌜ head ≡ sizes (now s) ⌝ }

@@ -19,6 +19,7 @@ use Rattle.laws.proofs.Booleans.{true-is-false}
 use Rattle.tcc.specs.Score.{Score}
 use Rattle.tcc.specs.Instant.{State, Answer, output, answer, after}
 use Rattle.tcc.proofs.Output.{output-from}
+use Rattle.tcc.proofs.Status.{answer-status}
 use Rattle.format.specs.Decode.{sizes, decode}
 use Rattle.format.specs.Playable.{Playable}
 use Rattle.format.proofs.Decode.{playable-agents, decode-tokens}
@@ -31,7 +32,6 @@ use Rattle.standing.specs.declared.Standing.{Standing}
 use Rattle.standing.specs.Standing.{stateIn}
 use Rattle.standing.proofs.Inside.{Inside, answer-inside, flags-known}
 use Rattle.journal.specs.History.{instantWords, entry, Rising}
-use Rattle.journal.proofs.Histories.{answer-status}
 use Rattle.journal.proofs.Rising.{rising-below, rising-set, output-rising}
 use Rattle.history.specs.declared.Step.{Step}
 use Rattle.history.specs.Stepped.{Stepped}

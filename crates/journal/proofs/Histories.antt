@@ -1,5 +1,4 @@
 -- The journal of a history.
---     answer-status      a status is 0, 1 or 2
 --     entry-same         the same answers have the same words
 --     entry-formed, entry-inputs     the words of an instant are well formed and give its inputs back
 --     entries            the words of each instant of a history
@@ -9,18 +8,17 @@
 --     history-instants   the instants in them are its entries
 --     history-inputs     and their inputs its own
 use mathlib.Core.Path.{_≡_, refl, ap, ap₂, subst⁻¹, _∙_}
-use mathlib.Core.Bool.{Bool, true, false, cond}
+use mathlib.Core.Bool.{true}
 use mathlib.Core.List.{List, [], _∷_, _++_, map, flatten, List·Memᴰ, List·Memᴰ·head, List·Memᴰ·tail}
-use Prim.Native.Nat.{ℕ, _<_}
-use native.Mathlib.Omega.{arith}
-use Rattle.laws.specs.Sets.{any, has}
+use Prim.Native.Nat.{ℕ}
 use Rattle.laws.proofs.Booleans.{true-is-false}
 use Rattle.laws.proofs.Sets.{Within, on-cons}
-use Rattle.tcc.specs.Score.{Score, agentAt}
+use Rattle.tcc.specs.Score.{Score}
 use Rattle.tcc.specs.Lawful.{Lawful}
-use Rattle.tcc.specs.Instant.{Answer, abortedAnswer, quietAnswer, liveIn, heldIn, isAbort, reached, instant, State, running, aborted, output, answer, after}
+use Rattle.tcc.specs.Instant.{Answer, State, output, answer, after}
 use Rattle.tcc.proofs.SameAnswer.{SameAnswer}
 use Rattle.tcc.proofs.Output.{output-same}
+use Rattle.tcc.proofs.Status.{answer-status}
 use Rattle.words.specs.Word.{words}
 use Rattle.bits.specs.Bits.{bytesOf}
 use Rattle.form.specs.declared.Form.the-variants.{Good}
@@ -30,21 +28,6 @@ use Rattle.journal.specs.History.{instantWords, entry, history, Rising}
 use Rattle.journal.proofs.Rising.{output-rising}
 use Rattle.journal.proofs.Forms.{WellFormed}
 use Rattle.journal.proofs.Formed.{words-inputs, words-formed, formed-words, formed-good, formed-instants}
-
-clash-status : (b : Bool) → cond b 1 0 < 3
-clash-status true = omega arith
-clash-status false = omega arith
-
-either-status : (sc : Score) (b : Bool) (store lives : List ℕ) → cond b abortedAnswer (quietAnswer sc store lives) .status < 3
-either-status sc true store lives = omega arith
-either-status sc false store lives = clash-status (has 0 store)
-
-pub answer-status : (sc : Score) (st : State) (inputs : List ℕ) → answer sc st inputs .status < 3
-unfolding answer instant
-answer-status sc (running agents) inputs =
-    let facts = reached sc agents inputs in
-    either-status sc (any (λ i. isAbort (agentAt sc i)) (liveIn facts)) (heldIn facts) (liveIn facts)
-answer-status sc aborted inputs = omega arith
 
 pub entry-same : (sc : Score) (inputs : List ℕ) {a b : Answer} → SameAnswer a b → entry sc inputs a ≡ entry sc inputs b
 entry-same sc inputs {a} {b} same = ap₂ (λ s o. instantWords s inputs o) (same .status) (ap (λ s. output sc s (a .store)) (same .status) ∙ output-same sc (b .status) (same .store))

@@ -2,6 +2,7 @@
 --     true-is-false            no test is both
 --     and-both, both-and       a conjunction of tests, taken apart and put together
 --     neither                  a disjunction that fails
+--     both-ways                two tests that imply each other are equal
 --     cond-true, cond-false    what a test chooses
 --     either, by-test          what holds of either side of a choice, knowing how the test ended or not, holds of the choice
 use mathlib.Core.Path.{_≡_, refl, sym, ap, _∙_}
@@ -24,6 +25,14 @@ both-and {a} {b} p q = rw (p, q)
 pub neither : (a b : Bool) → (a || b) ≡ false → (a ≡ false) × (b ≡ false)
 neither true b e = absurd (true-is-false refl e)
 neither false b e = (refl, e)
+
+pub both-ways : {a b : Bool} → (a ≡ true → b ≡ true) → (b ≡ true → a ≡ true) → a ≡ b
+both-ways {a} {b} to from = go a b to from
+  where
+    go : (a b : Bool) → (a ≡ true → b ≡ true) → (b ≡ true → a ≡ true) → a ≡ b
+    go true b to from = sym (to refl)
+    go false true to from = from refl
+    go false false to from = refl
 
 module _ {A : Type 0} where
   pub cond-true : (y : A) {x z : A} {b : Bool} → b ≡ true → z ≡ x → z ≡ cond b x y

@@ -14,7 +14,7 @@
 --     on-cons, on-append, on-map, on-keep     what holds of the parts holds of every member
 --     map-member                      the images of the members are members of `map`
 --     keep-agrees                     two tests that agree on the members keep the same
---     same-refl, same-sym, same-trans     `Same` is an equivalence
+--     same-refl, same-sym, same-trans     `Same` is an equivalence; `same-cons`, with one member more
 use mathlib.Core.Path.{_≡_, refl, sym, ap, _∙_, subst}
 use mathlib.Core.Bool.{Bool, true, false, cond, _||_, true-or, or-true}
 use mathlib.Core.List.{List, [], _∷_, _++_, map, List·Memᴰ, List·Memᴰ·head, List·Memᴰ·tail, List·Memᴰ·cases-cons, List·Memᴰ·append-cases, Memᴰ·append-left, Memᴰ·append-right}
@@ -93,6 +93,12 @@ module _ {A : Type 0} where
 
   pub same-trans : {l k m : List A} → Same l k → Same k m → Same l m
   same-trans h g x = (λ p. g x .0 (h x .0 p), λ p. h x .1 (g x .1 p))
+
+  pub same-cons : (x : A) {l k : List A} → Same l k → Same (x ∷ l) (x ∷ k)
+  same-cons x {l} {k} same y = (
+    on-cons {P = λ z. List·Memᴰ z (x ∷ k)} (List·Memᴰ·head refl) (λ z m. List·Memᴰ·tail (same z .0 m)) y,
+    on-cons {P = λ z. List·Memᴰ z (x ∷ l)} (List·Memᴰ·head refl) (λ z m. List·Memᴰ·tail (same z .1 m)) y,
+  )
 
 module _ {A B : Type 0} where
   pub map-member : (f : A → B) {x : A} {l : List A} → List·Memᴰ x l → List·Memᴰ (f x) (map f l)

@@ -35,7 +35,7 @@ fn number_in(answer: u64) -> u64
     ensures { λ r. ⌜ r ≡ numberIn answer ⌝ }
 {
     let layout = answer / 0x2000_0000_0000_0000;
-    if layout == 0 {
+    if (layout == 0) | (layout == 5) {
         0
     } else if layout == 1 {
         answer % 256

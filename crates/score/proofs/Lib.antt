@@ -3,3 +3,4 @@ pub mod ScoreInstant
 pub mod ScoreRun
 pub mod ScoreJournalCheck
 pub mod ScoreTranslate
+pub mod ScoreSettings

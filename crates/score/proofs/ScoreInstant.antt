@@ -18,6 +18,7 @@ use Rattle.laws.proofs.Booleans.{either}
 use Rattle.laws.proofs.Sets.{below-length, keep-few}
 use Rattle.tcc.specs.Score.{Score, agentAt}
 use Rattle.tcc.specs.Instant.{State as Between, running, aborted, Answer, count, abortedAnswer, quietAnswer, liveIn, heldIn, isAbort, reached, instant, answer, after}
+use Rattle.tcc.proofs.Status.{answer-status}
 use Rattle.format.specs.Decode.{sizes, decode}
 use Rattle.format.proofs.Decode.{sizes-few}
 use Rattle.verdicts.specs.declared.Verdict.{Verdict}
@@ -31,7 +32,6 @@ use Rattle.maps.specs.Maps.{tokensIn}
 use Rattle.instant.specs.declared.Reply.{Reply as Replied}
 use Rattle.instant.specs.declared.Reply.the-variants.{Score as Turned, Lengths, State, Input, Next, Settled}
 use Rattle.instant.specs.InstantCall.{Lent, Exit, lengthFault, tokenFault, kept, exit, InstantCall}
-use Rattle.journal.proofs.Histories.{answer-status}
 use Rattle.answer.specs.Answer.{numberOf, valueOf, statusOf, countOf, Fits, packed, Reads}
 use Rattle.answer.specs.Replies.{ofReply}
 use Rattle.answer.proofs.Answer.{exact}

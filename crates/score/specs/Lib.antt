@@ -4,3 +4,4 @@ pub mod Slice
 pub mod ScoreRun
 pub mod ScoreJournalCheck
 pub mod ScoreTranslate
+pub mod ScoreSettings

@@ -4,6 +4,7 @@ ghost use Rattle.score.specs.CheckCall.{CheckCall};
 ghost use Rattle.score.specs.ScoreInstant.{ScoreInstant};
 ghost use Rattle.score.specs.ScoreRun.{ScoreRun};
 ghost use Rattle.score.specs.ScoreJournalCheck.{ScoreJournalCheck};
+ghost use Rattle.score.specs.ScoreSettings.{ScoreSettings};
 ghost use Rattle.score.specs.ScoreTranslate.{ScoreTranslate};
 
 // Checks a score.
@@ -49,6 +50,14 @@ pub extern "C" fn score_journal_check(score: &[u8], journal: &[u8], scratch: &mu
     ensures { λ r. ⌜ ScoreJournalCheck (now (score .entry)) (now (journal .entry)) (now (scratch .entry)) (now (scratch .exit)) r ⌝ }
 {
     answer::of_run_reply(journalcheck::call(score, journal, scratch))
+}
+
+// Counts how the settings of exactly k switches end, each tried from the same state.
+#[no_mangle]
+pub extern "C" fn score_settings(score: &[u8], state: &[u8], switches: &[u8], k: u32) -> u64
+    ensures { λ r. ⌜ ScoreSettings (now (score .entry)) (now (state .entry)) (now (switches .entry)) k r ⌝ }
+{
+    answer::of_settings(counting::call(score, state, switches, k))
 }
 
 // Translates a draft to a plain score.

@@ -15,3 +15,4 @@ pub mod Chain
 pub mod SameAnswer
 pub mod Output
 pub mod Unaborted
+pub mod Status

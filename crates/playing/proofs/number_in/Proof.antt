@@ -1,26 +1,28 @@
 -- `number_in`: by the answer's layout.
 use mathlib.Core.Path.{_≡_}
+use mathlib.Core.Bool.{true, false, _||_}
 use Prim.Native.Nat.{ℕ, _+_, _/_, _^_}
 use borrow.Author.Needs.{needs}
 use borrow.Author.Tests.{eq-eqb, ne-eqb}
+use lib.Dec.{eqb}
 use Rattle.answer.specs.Answer.{numberIn}
 use Rattle.playing.proofs.number_in.Statement.{statement}
 use Rattle.playing.proofs.number_in.Tie as tie
 
-wide : (a : ℕ) → (a / 2 ^ 61 ≡ 0 → ⊥) → (a / 2 ^ 61 ≡ 1 → ⊥) → a / 2 ^ 61 + 11 ≡ numberIn a
+wide : (a : ℕ) → (eqb (a / 2 ^ 61) 0 || eqb (a / 2 ^ 61) 5) ≡ false → (a / 2 ^ 61 ≡ 1 → ⊥) → a / 2 ^ 61 + 11 ≡ numberIn a
 unfolding numberIn
-wide a z o = rw (ne-eqb _ 0 z, ne-eqb _ 1 o)
+wide a z o = rw (z, ne-eqb _ 1 o)
 
 add-result : tie.Need-add-result
 add-result c = search needs
 
 returns : tie.Need-returns
 unfolding numberIn
-returns c = rw (eq-eqb _ 0 (c .if1 .taken))
+returns c = let e : (eqb (c .before .args .answer / 2 ^ 61) 0 || eqb (c .before .args .answer / 2 ^ 61) 5) ≡ true = c .if1 .taken in rw e
 
 returns-2 : tie.Need-returns-2
 unfolding numberIn
-returns-2 c = rw (ne-eqb _ 0 (c .before .if1 .left), eq-eqb _ 1 (c .if2 .taken))
+returns-2 c = let e : (eqb (c .before .before .args .answer / 2 ^ 61) 0 || eqb (c .before .before .args .answer / 2 ^ 61) 5) ≡ false = c .before .if1 .left in rw (e, eq-eqb _ 1 (c .if2 .taken))
 
 returns-3 : tie.Need-returns-3
 returns-3 c = wide (c .before .before .args .answer) (c .before .if1 .left) (c .if2 .left)

@@ -1,0 +1,125 @@
+-- `call`: each test in the order of the table, then the settings.
+use mathlib.Core.Path.{_≡_, refl, sym, ap, _∙_}
+use mathlib.Core.Bool.{false, not, _||_}
+use Prim.Native.Nat.{suc, _≤_}
+use borrow.Author.Needs.{needs}
+use native.Mathlib.Omega.{arith}
+use borrow.Author.Tests.{eq-eqb, ne-eqb}
+use lib.Dec.{eqb, leb}
+use lib.ListN.{length}
+use Rattle.laws.proofs.Booleans.{neither}
+use Rattle.format.specs.Decode.{sizes}
+use Rattle.format.specs.Playable.{Playable}
+use Rattle.verdicts.specs.Verdicts.{numberOf}
+use Rattle.scorefile.specs.Check.{verdict}
+use Rattle.scorefile.proofs.Stages.{head-read, by-head}
+use Rattle.scorefile.proofs.Stages as stages
+use Rattle.lent.specs.Lengths.{stateBytes}
+use Rattle.lent.specs.States.{stateFault}
+use Rattle.switches.specs.Switches.{mostSwitches, switchFault}
+use Rattle.switches.proofs.Listed.{faultless}
+use Rattle.counting.specs.SettingsCall.{pressFault}
+use Rattle.counting.proofs.Replies.{turned, lengths, state, switched, counts-all, from-standing}
+use Rattle.counting.proofs.call.Statement.{statement}
+use Rattle.counting.proofs.call.Tie as tie
+
+accepted : (c : tie.Else1) → numberOf (verdict (c .before .before .before .before .before .before .args .score .now)) ≡ 0
+accepted c = stages.accepted (c .before .before .before .before .before .before .args .score .now) (c .before .number-of .ensures) (c .before .before .check .ensures) (c .if1 .left)
+
+playable : (c : tie.Else1) → Playable (c .before .before .before .before .before .before .args .score .now)
+playable c = stages.playable (c .before .before .before .before .before .before .args .score .now) (accepted c)
+
+sizes-are : (c : tie.After-sizes-of) → c .sizes-of .result ≡ sizes (c .before .before .before .before .before .before .before .before .before .args .score .now)
+sizes-are c = head-read (c .before .before .before .before .before .before .before .before .before .args .score .now) (c .before .word-at .ensures) (c .sizes-of .ensures)
+
+fault-is : (c : tie.After-state-fault) → c .state-fault .result ≡ stateFault (sizes (c .before .before .before .before .before .before .before .before .before .before .args .score .now) .agents) (c .before .before .before .before .before .before .before .before .before .before .args .state .now)
+fault-is c = by-head (λ h. stateFault (h .agents) (c .before .before .before .before .before .before .before .before .before .before .args .state .now)) (sizes-are (c .before)) (c .state-fault .ensures)
+
+switches-are : (c : tie.After-switch-fault) → c .switch-fault .result ≡ switchFault (sizes (c .before .before .before .before .before .before .before .before .before .before .before .before .args .score .now) .tokens) (c .before .before .before .before .before .before .before .before .before .before .before .before .args .switches .now)
+switches-are c = by-head (λ h. switchFault (h .tokens) (c .before .before .before .before .before .before .before .before .before .before .before .before .args .switches .now)) (sizes-are (c .before .before .before)) (c .switch-fault .ensures)
+
+long : (c : tie.Else2) → not (eqb (length (c .before .before .before .before .before .before .before .args .state .now)) stateBytes) ≡ false
+long c = ap not (eq-eqb (length (c .before .before .before .before .before .before .before .args .state .now)) stateBytes (c .if2 .left))
+
+lawful : (c : tie.Else3) → stateFault (sizes (c .before .before .before .before .before .before .before .before .before .before .before .args .score .now) .agents) (c .before .before .before .before .before .before .before .before .before .before .before .args .state .now) ≡ false
+lawful c = sym (fault-is (c .before)) ∙ c .if3 .left
+
+pressed-are : (c : tie.After-switch-fault) → (c .switch-fault .result || leb (suc (length (c .before .before .before .before .before .before .before .before .before .before .before .before .args .switches .now))) (c .before .before .before .before .before .before .before .before .before .before .before .before .args .k)) ≡ pressFault (sizes (c .before .before .before .before .before .before .before .before .before .before .before .before .args .score .now) .tokens) (c .before .before .before .before .before .before .before .before .before .before .before .before .args .switches .now) (c .before .before .before .before .before .before .before .before .before .before .before .before .args .k)
+pressed-are c = ap (λ f. f || leb (suc (length (c .before .before .before .before .before .before .before .before .before .before .before .before .args .switches .now))) (c .before .before .before .before .before .before .before .before .before .before .before .before .args .k)) (switches-are c)
+
+passed : (c : tie.Else4) → (c .before .switch-fault .result || leb (suc (length (c .before .before .before .before .before .before .before .before .before .before .before .before .before .args .switches .now))) (c .before .before .before .before .before .before .before .before .before .before .before .before .before .args .k)) ≡ false
+passed c = c .if4 .left
+
+none : (c : tie.Else4) → (switchFault (sizes (c .before .before .before .before .before .before .before .before .before .before .before .before .before .args .score .now) .tokens) (c .before .before .before .before .before .before .before .before .before .before .before .before .before .args .switches .now) ≡ false) × (leb (suc (length (c .before .before .before .before .before .before .before .before .before .before .before .before .before .args .switches .now))) (c .before .before .before .before .before .before .before .before .before .before .before .before .before .args .k) ≡ false)
+none c = neither _ _ (sym (pressed-are (c .before)) ∙ passed c)
+
+check-requires : tie.Need-check-requires
+check-requires c κs = search needs
+
+number-of-requires : tie.Need-number-of-requires
+number-of-requires c κs = search needs
+
+returns : tie.Need-returns
+returns c = let b = c .before .before .before .before .before .before .args in record { replies = turned (b .score .now) (b .state .now) (b .switches .now) (b .k) (c .before .number-of .ensures) (c .before .before .check .ensures) (c .if1 .taken) }
+
+returns-2 : tie.Need-returns-2
+returns-2 c = let b = c .before .before .before .before .before .before .before .args in record { replies = lengths (b .score .now) (b .state .now) (b .switches .now) (b .k) (accepted (c .before)) (ap not (ne-eqb (length (b .state .now)) stateBytes (c .if2 .taken))) }
+
+word-at-requires : tie.Need-word-at-requires
+word-at-requires c κs = omega (arith, playable (c .before) .whole)
+
+sizes-of-requires : tie.Need-sizes-of-requires
+sizes-of-requires c κs = search needs
+
+state-fault-requires : tie.Need-state-fault-requires
+state-fault-requires c κs = search needs
+
+returns-3 : tie.Need-returns-3
+returns-3 c =
+    let b = c .before .before .before .before .before .before .before .before .before .before .before .args in
+    record { replies = state (b .score .now) (b .state .now) (b .switches .now) (b .k) (accepted (c .before .before .before .before .before)) (long (c .before .before .before .before)) (sym (fault-is (c .before)) ∙ c .if3 .taken) }
+
+switch-fault-requires : tie.Need-switch-fault-requires
+switch-fault-requires c κs = search needs
+
+returns-4 : tie.Need-returns-4
+returns-4 c =
+    let b = c .before .before .before .before .before .before .before .before .before .before .before .before .before .args in
+    record { replies = switched (b .score .now) (b .state .now) (b .switches .now) (b .k) (accepted (c .before .before .before .before .before .before .before)) (long (c .before .before .before .before .before .before)) (lawful (c .before .before)) (sym (pressed-are (c .before)) ∙ c .if4 .taken) }
+
+standing-in-requires : tie.Need-standing-in-requires
+standing-in-requires c κs = search needs
+
+try-settings-requires : tie.Need-try-settings-requires
+try-settings-requires c κs =
+    let s = c .before .before .before .before .before in
+    let few : length (c .before .before .before .before .before .before .before .before .before .before .before .before .before .before .before .before .before .args .switches .now) ≤ mostSwitches = faultless (sizes (c .before .before .before .before .before .before .before .before .before .before .before .before .before .before .before .before .before .args .score .now) .tokens) (c .before .before .before .before .before .before .before .before .before .before .before .before .before .before .before .before .before .args .switches .now) (none (c .before .before .before .before) .0) .0 in
+    (sizes-are (c .before .before .before .before .before .before .before .before), (playable (c .before .before .before .before .before .before .before .before .before .before .before), (search needs, (refl, few))))
+
+returns-5 : tie.Need-returns-5
+returns-5 c =
+    let b = c .before .before .before .before .before .before .before .before .before .before .before .before .before .before .before .before .before .before .args in
+    let e = c .before .before .before .before .before in
+    record {
+      replies =
+          counts-all (b .score .now) (b .state .now) (b .switches .now) (b .k) (accepted (c .before .before .before .before .before .before .before .before .before .before .before .before)) (long (c .before .before .before .before .before .before .before .before .before .before .before)) (lawful (c .before .before .before .before .before .before .before)) (sym (pressed-are (e .before)) ∙ passed e) _
+          (c .try-settings .ensures .0 ∙ from-standing (b .score .now) (b .state .now) (b .switches .now) (b .k) _ (c .before .before .before .before .standing-in .ensures));
+    }
+
+pub call-spec : {M : Type 1} → statement M
+call-spec =
+    tie.close
+    (tie.spec
+    check-requires
+    number-of-requires
+    returns
+    returns-2
+    word-at-requires
+    sizes-of-requires
+    state-fault-requires
+    returns-3
+    switch-fault-requires
+    returns-4
+    standing-in-requires
+    try-settings-requires
+    returns-5)

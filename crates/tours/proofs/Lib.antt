@@ -1,0 +1,9 @@
+pub mod Counts
+pub mod AddUp
+pub mod AnyOrder
+pub mod Tried
+pub mod CountedByCalls
+pub mod NoneAborts
+pub mod Harmless
+pub mod SomeSetting
+pub mod NeverBoth
