@@ -6,7 +6,7 @@
 #include "baseline.h"
 #include "score.h"
 
-enum { LENT_LENGTH = 8, LENT_STATE = 9, LENT_INPUT = 10, KEPT_LENGTH = 12 };
+enum { LENT_LENGTH = 8, LENT_STATE = 9, LENT_INPUT = 10, KEPT_LENGTH = 12, LENT_SWITCHES = 17 };
 
 /* The numbers 13, 14 and 15 are laid out by their own. */
 static const uint64_t KEPT_FORM = UINT64_C(2) << 61, KEPT_DIFFERS = UINT64_C(3) << 61, KEPT_FULL = UINT64_C(4) << 61;
@@ -368,4 +368,80 @@ uint64_t call_journal_check(const struct engine *engine, const uint8_t *score_by
         return answer;
     clear(scratch);
     return compare_journal(engine, &score, journal, journal_len / 4, scratch);
+}
+
+/* 0 if the switches, or how many of them are pressed, meet number 17. */
+static int are_switches(const struct score *score, const uint8_t *switches, size_t count, uint32_t pressed)
+{
+    struct tokens listed = {{0}};
+    size_t i;
+    if (count > SCORE_MAX_SWITCHES || pressed > count)
+        return 0;
+    for (i = 0; i < count; i++) {
+        if (switches[i] >= score->tokens || has_token(&listed, switches[i]))
+            return 0;
+        add_token(&listed, switches[i]);
+    }
+    return 1;
+}
+
+/* What all settings of a call are tried from, and how many ended with each status. */
+struct trials {
+    const struct engine *engine;
+    const struct score *score;
+    struct index index;
+    struct state state;
+    uint32_t counts[ABORTED + 1];
+};
+
+static void try_setting(struct trials *trials, const struct tokens *told)
+{
+    uint32_t status = ABORTED;
+    if (!trials->state.aborted)
+        status = trials->engine->status(trials->score, &trials->index, &trials->state.agents, told);
+    trials->counts[status]++;
+}
+
+/* Tries every setting in which these tokens are told, and beside them exactly so many of the switches that are left. */
+static void try_settings(struct trials *trials, const struct tokens *told, const uint8_t *switches, size_t left,
+                         uint32_t pressed)
+{
+    struct tokens with = *told;
+    if (pressed == 0) {
+        try_setting(trials, told);
+        return;
+    }
+    add_token(&with, switches[0]);
+    try_settings(trials, &with, switches + 1, left - 1, pressed - 1);
+    if (left > pressed)
+        try_settings(trials, told, switches + 1, left - 1, pressed);
+}
+
+static uint64_t counted(const uint32_t *counts)
+{
+    return UINT64_C(5) << 61 | counts[QUIET] | (uint64_t)counts[CLASHED] << 14 | (uint64_t)counts[ABORTED] << 28;
+}
+
+uint64_t call_settings(const struct engine *engine, const uint8_t *score_bytes, size_t score_len,
+                       const uint8_t *state_bytes, size_t state_len, const uint8_t *switches, size_t switches_len,
+                       uint32_t k)
+{
+    uint64_t answer = baseline_check(score_bytes, score_len);
+    struct score score;
+    struct trials trials;
+    if (answer)
+        return answer;
+    if (state_len != SCORE_STATE_BYTES)
+        return refusal(LENT_LENGTH);
+    take_apart(&score, score_bytes, score_len);
+    if (!read_state(&trials.state, &score, state_bytes))
+        return refusal(LENT_STATE);
+    if (!are_switches(&score, switches, switches_len, k))
+        return refusal(LENT_SWITCHES);
+    trials.engine = engine;
+    trials.score = &score;
+    memset(trials.counts, 0, sizeof trials.counts);
+    engine->prepare(&score, &trials.index);
+    try_settings(&trials, &trials.index.facts, switches, switches_len, k);
+    return counted(trials.counts);
 }

@@ -44,12 +44,15 @@ struct index {
 };
 
 /* An instant is given the tokens that are in the store from its start, the inputs and the facts, and the lent scratch,
- * all zero, in which it sets the bit of each agent that it reduces. The count is taken from these bits.
+ * all zero, in which it sets the bit of each agent that it reduces. The count is taken from these bits. Where nothing
+ * but the status of an instant is asked for, `status` gives it.
  */
 struct engine {
     void (*prepare)(const struct score *score, struct index *index);
     void (*instant)(const struct score *score, const struct index *index, const struct agents *awake,
                     const struct tokens *told, uint8_t *reduced, struct end *end);
+    uint32_t (*status)(const struct score *score, const struct index *index, const struct agents *awake,
+                       const struct tokens *told);
 };
 
 /* Of an accepted score, or draft. */
@@ -65,6 +68,9 @@ uint64_t call_run(const struct engine *engine, const uint8_t *score, size_t scor
 
 uint64_t call_journal_check(const struct engine *engine, const uint8_t *score, size_t score_len,
                             const uint8_t *journal, size_t journal_len, uint8_t *scratch, size_t scratch_len);
+
+uint64_t call_settings(const struct engine *engine, const uint8_t *score, size_t score_len, const uint8_t *state,
+                       size_t state_len, const uint8_t *switches, size_t switches_len, uint32_t k);
 
 static inline uint32_t body_of(uint32_t word) { return word & 0x3FF; }
 static inline uint32_t other_half_of(uint32_t word) { return word >> 10 & 0x3FF; }

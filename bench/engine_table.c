@@ -1,5 +1,5 @@
-/* engine_table.c: times all calls against two engines written by hand, on six scores; and how the library's calls grow
- * with the score.
+/* engine_table.c: times all calls against two engines written by hand, on six scores, and the settings of switches on
+ * one of them; and how the library's calls grow with the score.
  */
 #define _POSIX_C_SOURCE 199309L
 
@@ -12,7 +12,7 @@
 #include "tables.h"
 #include "timing.h"
 
-enum { INSTANTS = 1000, INSTANT_LEN_MAX = 4 * 513, REPETITIONS = 11 };
+enum { INSTANTS = 1000, INSTANT_LEN_MAX = 4 * 513, REPETITIONS = 11, PRESSED = 8, SETTINGS = 12870 };
 
 static const double REPETITION_NS = 2e6;
 
@@ -21,12 +21,13 @@ struct calls {
     instant_call *instant;
     run_call *run;
     journal_check_call *journal_check;
+    settings_call *settings;
 };
 
-static const struct calls passes = {baseline_check, passes_instant, passes_run, passes_journal_check};
-static const struct calls linear = {baseline_check, linear_instant, linear_run, linear_journal_check};
+static const struct calls passes = {baseline_check, passes_instant, passes_run, passes_journal_check, passes_settings};
+static const struct calls linear = {baseline_check, linear_instant, linear_run, linear_journal_check, linear_settings};
 
-static const struct calls library = {score_check, score_instant, score_run, score_journal_check};
+static const struct calls library = {score_check, score_instant, score_run, score_journal_check, score_settings};
 
 static const struct calls *const engines[] = {&passes, &linear, &library};
 
@@ -36,7 +37,7 @@ enum { ENGINES = sizeof engines / sizeof *engines };
 struct lent {
     struct score_bytes score;
     uint8_t start[SCORE_STATE_BYTES], state[SCORE_STATE_BYTES], input[SCORE_MAP_BYTES], store[SCORE_MAP_BYTES],
-        output[SCORE_MAP_BYTES], scratch[SCORE_SCRATCH_BYTES];
+        output[SCORE_MAP_BYTES], scratch[SCORE_SCRATCH_BYTES], switches[SCORE_MAX_SWITCHES];
     uint8_t inputs[INSTANTS * INSTANT_LEN_MAX], journal[INSTANTS * INSTANT_LEN_MAX];
     size_t inputs_len, journal_len;
 };
@@ -67,6 +68,12 @@ static uint64_t one_journal_check(const struct calls *calls, struct lent *lent)
                                 SCORE_SCRATCH_BYTES);
 }
 
+static uint64_t one_settings(const struct calls *calls, struct lent *lent)
+{
+    return calls->settings(lent->score.bytes, lent->score.len, lent->start, SCORE_STATE_BYTES, lent->switches,
+                           SCORE_MAX_SWITCHES, PRESSED);
+}
+
 /* A row of the table for one score. */
 struct row {
     const char *name;
@@ -82,6 +89,8 @@ static const struct row rows[] = {
 };
 
 enum { ROWS = sizeof rows / sizeof *rows };
+
+static const struct row settings_row = {"settings", one_settings, SETTINGS};
 
 static void put_word(uint8_t *bytes, size_t *len, uint32_t word)
 {
@@ -206,6 +215,14 @@ static int print_row(const char *name, const struct row *row, struct lent *lent)
     return 1;
 }
 
+/* All settings of half of the switches, from the start state. */
+static int print_settings_row(const struct kind *kind, struct lent *lent)
+{
+    prepare(lent, kind->build, kind->size);
+    write_switches(lent->switches);
+    return print_row(kind->name, &settings_row, lent);
+}
+
 int print_engine_table(void)
 {
     static struct lent lent;
@@ -217,7 +234,7 @@ int print_engine_table(void)
         for (row = 0; row < ROWS; row++)
             equal &= print_row(kinds[kind].name, &rows[row], &lent);
     }
-    return equal;
+    return equal & print_settings_row(&kinds[1], &lent);
 }
 
 /* How the library's time for a call grows from a score of half the size to the whole; 0 if an answer is wrong. */

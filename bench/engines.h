@@ -20,14 +20,19 @@ typedef uint64_t run_call(const uint8_t *score, size_t score_len, uint8_t *state
 typedef uint64_t journal_check_call(const uint8_t *score, size_t score_len, const uint8_t *journal,
                                     size_t journal_len, uint8_t *scratch, size_t scratch_len);
 
+typedef uint64_t settings_call(const uint8_t *score, size_t score_len, const uint8_t *state, size_t state_len,
+                               const uint8_t *switches, size_t switches_len, uint32_t k);
+
 /* Passes over all agents and rules until nothing is added. */
 instant_call passes_instant;
 run_call passes_run;
 journal_check_call passes_journal_check;
+settings_call passes_settings;
 
 /* Worklists: time is linear in the agents and rules that an instant touches. */
 instant_call linear_instant;
 run_call linear_run;
 journal_check_call linear_journal_check;
+settings_call linear_settings;
 
 #endif

@@ -171,24 +171,41 @@ static void wake_kept(struct work *work)
     }
 }
 
+/* Plays to the end of an instant, but for what is awake next; its status. */
+static uint32_t play(struct work *work, const struct score *score, const struct index *index,
+                     const struct agents *awake, const struct tokens *told)
+{
+    work->score = score;
+    work->index = index;
+    start(work, awake, told);
+    if (!work_off(work))
+        return ABORTED;
+    return has_token(&work->end->store, 0) ? CLASHED : QUIET;
+}
+
 static void instant(const struct score *score, const struct index *index, const struct agents *awake,
                     const struct tokens *told, uint8_t *reduced, struct end *end)
 {
     struct work work;
-    work.score = score;
-    work.index = index;
     work.end = end;
     work.reduced = reduced;
-    start(&work, awake, told);
-    if (!work_off(&work)) {
-        end->status = ABORTED;
-        return;
-    }
-    wake_kept(&work);
-    end->status = has_token(&end->store, 0) ? CLASHED : QUIET;
+    end->status = play(&work, score, index, awake, told);
+    if (end->status != ABORTED)
+        wake_kept(&work);
 }
 
-static const struct engine engine = {prepare, instant};
+static uint32_t status(const struct score *score, const struct index *index, const struct agents *awake,
+                       const struct tokens *told)
+{
+    uint8_t reduced[AGENTS_MAX / 8] = {0};
+    struct work work;
+    struct end end;
+    work.end = &end;
+    work.reduced = reduced;
+    return play(&work, score, index, awake, told);
+}
+
+static const struct engine engine = {prepare, instant, status};
 
 uint64_t linear_instant(const uint8_t *score, size_t score_len, uint8_t *state, size_t state_len,
                         const uint8_t *input, size_t input_len, uint8_t *store, size_t store_len, uint8_t *output,
@@ -209,4 +226,10 @@ uint64_t linear_journal_check(const uint8_t *score, size_t score_len, const uint
                               uint8_t *scratch, size_t scratch_len)
 {
     return call_journal_check(&engine, score, score_len, journal, journal_len, scratch, scratch_len);
+}
+
+uint64_t linear_settings(const uint8_t *score, size_t score_len, const uint8_t *state, size_t state_len,
+                         const uint8_t *switches, size_t switches_len, uint32_t k)
+{
+    return call_settings(&engine, score, score_len, state, state_len, switches, switches_len, k);
 }

@@ -112,31 +112,46 @@ static void write_end(struct end *end, const struct score *score, const struct f
         if (flags->awake[i] && !flags->reduced[i] && (kind_of(word) == NEXT || kind_of(word) == UNLESS))
             add_agent(&end->awake, body_of(word));
     }
-    end->status = flags->store[0] ? CLASHED : QUIET;
+}
+
+/* Passes until nothing is added; the status. */
+static uint32_t play(const struct score *score, const struct agents *awake, const struct tokens *told,
+                     struct flags *flags)
+{
+    int changed;
+    read_flags(flags, score, awake, told);
+    do {
+        changed = pass_rules(score, flags);
+        if (flags->store[0])
+            memset(flags->store, 1, score->tokens);
+        changed |= pass_agents(score, flags);
+    } while (changed == 1);
+    if (changed & ABORTED)
+        return ABORTED;
+    return flags->store[0] ? CLASHED : QUIET;
 }
 
 static void instant(const struct score *score, const struct index *index, const struct agents *awake,
                     const struct tokens *told, uint8_t *scratch, struct end *end)
 {
     struct flags flags;
-    int changed;
     (void)index;
-    read_flags(&flags, score, awake, told);
     memset(end, 0, sizeof *end);
-    do {
-        changed = pass_rules(score, &flags);
-        if (flags.store[0])
-            memset(flags.store, 1, score->tokens);
-        changed |= pass_agents(score, &flags);
-    } while (changed == 1);
+    end->status = play(score, awake, told, &flags);
     set_bits(scratch, &flags, score->agents);
-    if (changed & ABORTED)
-        end->status = ABORTED;
-    else
+    if (end->status != ABORTED)
         write_end(end, score, &flags);
 }
 
-static const struct engine engine = {prepare, instant};
+static uint32_t status(const struct score *score, const struct index *index, const struct agents *awake,
+                       const struct tokens *told)
+{
+    struct flags flags;
+    (void)index;
+    return play(score, awake, told, &flags);
+}
+
+static const struct engine engine = {prepare, instant, status};
 
 uint64_t passes_instant(const uint8_t *score, size_t score_len, uint8_t *state, size_t state_len,
                         const uint8_t *input, size_t input_len, uint8_t *store, size_t store_len, uint8_t *output,
@@ -157,4 +172,10 @@ uint64_t passes_journal_check(const uint8_t *score, size_t score_len, const uint
                               uint8_t *scratch, size_t scratch_len)
 {
     return call_journal_check(&engine, score, score_len, journal, journal_len, scratch, scratch_len);
+}
+
+uint64_t passes_settings(const uint8_t *score, size_t score_len, const uint8_t *state, size_t state_len,
+                         const uint8_t *switches, size_t switches_len, uint32_t k)
+{
+    return call_settings(&engine, score, score_len, state, state_len, switches, switches_len, k);
 }

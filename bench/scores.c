@@ -205,6 +205,19 @@ void build_season(struct score_bytes *score, struct input_tokens *input, uint32_
     build_winches_on_poles(score, input, winches, 3 * winches / 5);
 }
 
+/* The power, that winches 0 to 7 may go, and that winches 5 to 11 are at their limits: with power a winch that may go
+ * runs, and is a clash where it is at its limit. Of the settings of eight, 9,495 are quiet and 3,375 a clash.
+ */
+void write_switches(uint8_t switches[SCORE_MAX_SWITCHES])
+{
+    uint32_t i;
+    switches[0] = POWER;
+    for (i = 0; i < 8; i++)
+        switches[1 + i] = (uint8_t)go(i);
+    for (i = 0; i < 7; i++)
+        switches[9 + i] = (uint8_t)limit(5 + i);
+}
+
 /* Whens one inside the other, all answered by the input. */
 void build_when_chain(struct score_bytes *score, struct input_tokens *input, uint32_t whens)
 {

@@ -36,4 +36,7 @@ typedef void score_builder(struct score_bytes *score, struct input_tokens *input
 
 score_builder build_winches, build_season, build_when_chain, build_rule_chain, build_deep_sharing;
 
+/* As many switches of winches as there can be, twelve of which there must be. */
+void write_switches(uint8_t switches[SCORE_MAX_SWITCHES]);
+
 #endif

@@ -1,4 +1,4 @@
-/* fuzz.c: makes all five calls on valid, mutated and random bytes, and holds them to what every call must keep.
+/* fuzz.c: makes all six calls on valid, mutated and random bytes, and holds them to what every call must keep.
  *
  * Usage: fuzz SEED ROUNDS [FIRST]
  * Rounds are numbered from FIRST, or from 0; the seed and a round's number settle all that happens in it. Each buffer
@@ -15,9 +15,9 @@
 
 #include "score.h"
 
-enum { SCORE, STATE, INPUT, STORE, OUTPUT, SCRATCH, INPUTS, JOURNAL, DRAFT, PLAIN, BUFFERS };
-enum { CHECK, INSTANT, RUN, JOURNAL_CHECK, TRANSLATE, FUNCTIONS };
-enum { PAGE = 4096, MOST = 4 * PAGE, FILLER = 0xA5, SECONDS_A_ROUND = 60, ROUNDS_THAT_MEET_ALL = 5000, NUMBERS = 17 };
+enum { SCORE, STATE, INPUT, STORE, OUTPUT, SCRATCH, INPUTS, JOURNAL, SWITCHES, DRAFT, PLAIN, BUFFERS };
+enum { CHECK, INSTANT, RUN, JOURNAL_CHECK, SETTINGS, TRANSLATE, FUNCTIONS };
+enum { PAGE = 4096, MOST = 4 * PAGE, FILLER = 0xA5, SECONDS_A_ROUND = 60, ROUNDS_THAT_MEET_ALL = 5000, NUMBERS = 18 };
 
 #define BIT(number) (1u << (number))
 #define UP_TO(number) (2 * BIT(number) - 1)
@@ -43,6 +43,7 @@ static const struct {
      UP_TO(SCORE_STATE) | BIT(SCORE_LIST_LENGTH) | BIT(SCORE_LIST_FORM) | BIT(SCORE_ROOM)},
     {"score_journal_check", BIT(SCORE) | BIT(JOURNAL) | BIT(SCRATCH), BIT(SCRATCH),
      UP_TO(SCORE_BUFFER) | BIT(SCORE_LIST_LENGTH) | BIT(SCORE_LIST_FORM) | BIT(SCORE_JOURNAL)},
+    {"score_settings", BIT(SCORE) | BIT(STATE) | BIT(SWITCHES), 0, UP_TO(SCORE_STATE) | BIT(SCORE_SWITCHES)},
     {"score_translate", BIT(DRAFT) | BIT(PLAIN), BIT(PLAIN), UP_TO(SCORE_BUFFER) | BIT(SCORE_LARGE)},
 };
 
@@ -52,8 +53,10 @@ struct bytes {
     uint8_t at[MOST + PAGE];
 };
 
+/* The buffers, and how many switches are pressed. */
 struct lent {
     struct bytes of[BUFFERS];
+    uint32_t k;
 };
 
 /* Lengths of a scratch that meet SCORE_BUFFER: none, a byte or more less or more, and those about document 01's. */
@@ -63,6 +66,7 @@ enum { SCRATCH_LENGTHS = sizeof scratch_lengths / sizeof *scratch_lengths };
 static uint8_t *places[BUFFERS];
 static uint64_t random_state, met[FUNCTIONS][NUMBERS], facts_met, watches_met, clashes_met, sent_clashes_met;
 static uint64_t scratch_lengths_met[FUNCTIONS][SCRATCH_LENGTHS];
+static uint64_t settings_met[SCORE_ABORTED + 1], mixed_settings_met;
 
 static void require(int holds, const char *broken)
 {
@@ -134,7 +138,7 @@ static void take_back(const uint8_t *place, struct bytes *bytes, int at_end)
     memcpy(bytes->at, at_end ? place + around : place, bytes->len);
 }
 
-static uint64_t call_lent(int function, uint8_t **lent, const struct bytes *of)
+static uint64_t call_lent(int function, uint8_t **lent, const struct bytes *of, uint32_t k)
 {
     switch (function) {
     case CHECK: return score_check(lent[SCORE], of[SCORE].len);
@@ -147,6 +151,9 @@ static uint64_t call_lent(int function, uint8_t **lent, const struct bytes *of)
     case JOURNAL_CHECK:
         return score_journal_check(lent[SCORE], of[SCORE].len, lent[JOURNAL], of[JOURNAL].len, lent[SCRATCH],
                                    of[SCRATCH].len);
+    case SETTINGS:
+        return score_settings(lent[SCORE], of[SCORE].len, lent[STATE], of[STATE].len, lent[SWITCHES],
+                              of[SWITCHES].len, k);
     default: return score_translate(lent[DRAFT], of[DRAFT].len, lent[PLAIN], of[PLAIN].len);
     }
 }
@@ -160,7 +167,7 @@ static uint64_t call(int function, struct lent *lent, unsigned ends)
     for (i = 0; i < BUFFERS; i++)
         if (used & BIT(i))
             pointers[i] = lend(places[i], &lent->of[i], ends >> i & 1, PROT_READ | (written & BIT(i) ? PROT_WRITE : 0));
-    answer = call_lent(function, pointers, lent->of);
+    answer = call_lent(function, pointers, lent->of, lent->k);
     for (i = 0; i < BUFFERS; i++)
         if (used & BIT(i))
             take_back(places[i], &lent->of[i], ends >> i & 1);
@@ -440,10 +447,13 @@ static void make_set(struct bytes *set, size_t len, size_t flags, uint32_t limit
     set->len = len;
 }
 
+/* The start state, or any other, which is at times an aborted one. */
 static void make_state(struct bytes *state, const struct bytes *score, int is_start)
 {
     uint32_t root = word_at(score, 2 + agents_of(score)) & 0x3FF;
-    make_set(state, SCORE_STATE_BYTES, 4, is_start ? 0 : agents_of(score));
+    int is_aborted = !is_start && one_in(12);
+    make_set(state, SCORE_STATE_BYTES, 4, is_start || is_aborted ? 0 : agents_of(score));
+    state->at[0] = (uint8_t)is_aborted;
     state->at[3] = 0xF0;
     if (is_start)
         state->at[4 + root / 8] |= (uint8_t)BIT(root % 8);
@@ -462,8 +472,26 @@ static void make_list(struct bytes *list, uint32_t tokens)
     }
 }
 
-static void make(struct bytes *of, int from_start)
+/* Some distinct tokens in any order, few as a rule, and as a rule not more to be pressed. */
+static void make_switches(struct bytes *switches, uint32_t tokens, uint32_t *k)
 {
+    uint32_t most = one_in(16) ? SCORE_MAX_SWITCHES : 6, count = below((tokens < most ? tokens : most) + 1), i, other;
+    uint8_t listed;
+    for (i = 0; i < tokens; i++)
+        switches->at[i] = (uint8_t)i;
+    for (i = 0; i < count; i++) {
+        other = i + below(tokens - i);
+        listed = switches->at[other];
+        switches->at[other] = switches->at[i];
+        switches->at[i] = listed;
+    }
+    switches->len = count;
+    *k = one_in(8) ? (uint32_t)random_number() >> below(32) : below(count + 1);
+}
+
+static void make(struct lent *lent, int from_start)
+{
+    struct bytes *of = lent->of;
     make_score(&of[SCORE], 0);
     make_score(&of[DRAFT], 2 + below(8));
     make_state(&of[STATE], &of[SCORE], from_start);
@@ -473,6 +501,7 @@ static void make(struct bytes *of, int from_start)
     make_random(&of[OUTPUT], SCORE_MAP_BYTES);
     make_random(&of[SCRATCH], one_in(12) ? scratch_lengths[below(SCRATCH_LENGTHS)] : SCORE_SCRATCH_BYTES);
     make_random(&of[JOURNAL], below(one_in(4) ? MOST : 200));
+    make_switches(&of[SWITCHES], tokens_of(&of[SCORE]), &lent->k);
     make_random(&of[PLAIN], SCORE_MAX_BYTES);
 }
 
@@ -629,6 +658,97 @@ static void judge_translated_run(const struct lent *made, const struct lent *aft
     require(same(&lent.of[JOURNAL], &after->of[JOURNAL]), "the run of a translation has another journal");
 }
 
+/* Whether the switches, or how many of them are pressed, meet SCORE_SWITCHES. */
+static int are_wrong(const struct bytes *switches, uint32_t tokens, uint32_t k)
+{
+    size_t i;
+    if (switches->len > SCORE_MAX_SWITCHES || k > switches->len)
+        return 1;
+    for (i = 0; i < switches->len; i++)
+        if (switches->at[i] >= tokens || memchr(switches->at, switches->at[i], i))
+            return 1;
+    return 0;
+}
+
+/* The answer of an instant on the same score and state that has a set of the switches as its input. */
+static uint64_t answer_of_setting(const struct lent *lent, uint32_t set)
+{
+    static struct lent one;
+    const struct bytes *switches = &lent->of[SWITCHES];
+    size_t i;
+    one.of[SCORE] = lent->of[SCORE];
+    one.of[STATE] = lent->of[STATE];
+    one.of[INPUT].len = one.of[STORE].len = one.of[OUTPUT].len = SCORE_MAP_BYTES;
+    one.of[SCRATCH].len = SCORE_SCRATCH_BYTES;
+    memset(one.of[INPUT].at, 0, SCORE_MAP_BYTES);
+    for (i = 0; i < switches->len && i < SCORE_MAX_SWITCHES; i++)
+        if (set >> i & 1)
+            one.of[INPUT].at[switches->at[i] / 8] |= (uint8_t)BIT(switches->at[i] % 8);
+    return call(INSTANT, &one, below(BIT(BUFFERS)));
+}
+
+/* The settings of few switches are those that instants show one by one. */
+static void require_instants(const struct lent *lent, uint64_t answer)
+{
+    uint32_t counts[SCORE_ABORTED + 1] = {0}, set, status;
+    for (set = 0; set < BIT(lent->of[SWITCHES].len); set++)
+        if ((uint32_t)__builtin_popcount(set) == lent->k)
+            counts[score_answer_status(answer_of_setting(lent, set))]++;
+    for (status = SCORE_QUIET; status <= SCORE_ABORTED; status++)
+        require(counts[status] == score_settings_count(answer, status), "settings end otherwise than instants");
+}
+
+/* All settings are counted. Pressing a switch takes back neither a clash nor an abort; and no state has both, as a
+ * clash answers every when and so leads to each abort that a setting leads to.
+ */
+static void require_counts(const struct lent *lent, uint64_t answer, uint32_t status_of_none)
+{
+    uint32_t quiet = score_settings_count(answer, SCORE_QUIET), clashes = score_settings_count(answer, SCORE_CLASH);
+    uint32_t aborts = score_settings_count(answer, SCORE_ABORTED), n = (uint32_t)lent->of[SWITCHES].len, all = 1, i;
+    for (i = 0; i < lent->k; i++)
+        all = all * (n - i) / (i + 1);
+    require(quiet + clashes + aborts == all, "the counts are not all settings");
+    require(lent->k || score_settings_count(answer, status_of_none), "none pressed ends otherwise than an instant");
+    require(status_of_none == SCORE_QUIET || !quiet, "a setting is quiet, though without it there is a clash or abort");
+    require(status_of_none != SCORE_ABORTED || aborts == all, "a setting does not abort, though none pressed does");
+    require(!clashes || !aborts, "settings of one state end with clashes and with aborts");
+    for (i = SCORE_QUIET; i <= SCORE_ABORTED; i++)
+        settings_met[i] += score_settings_count(answer, i) > 0;
+    mixed_settings_met += quiet && quiet < all;
+}
+
+static void reverse(struct bytes *bytes)
+{
+    size_t i;
+    for (i = 0; i < bytes->len / 2; i++) {
+        uint8_t byte = bytes->at[i];
+        bytes->at[i] = bytes->at[bytes->len - 1 - i];
+        bytes->at[bytes->len - 1 - i] = byte;
+    }
+}
+
+/* A count of settings turns down score and state as an instant does, and the switches exactly where they are wrong. */
+static void judge_settings(struct lent *lent)
+{
+    enum { FEW = 4 };
+    uint64_t of_none = answer_of_setting(lent, 0), answer = judged(SETTINGS, lent);
+    uint32_t number = score_answer_number(answer);
+    if (score_answer_number(of_none)) {
+        require(answer == of_none, "settings turn down a score or state otherwise than an instant");
+        return;
+    }
+    if (are_wrong(&lent->of[SWITCHES], tokens_of(&lent->of[SCORE]), lent->k)) {
+        require(number == SCORE_SWITCHES && !score_answer_value(answer), "wrong switches do not meet 17");
+        return;
+    }
+    require(number == SCORE_ACCEPTED, "switches are refused that are not wrong");
+    require_counts(lent, answer, score_answer_status(of_none));
+    if (lent->of[SWITCHES].len <= FEW)
+        require_instants(lent, answer);
+    reverse(&lent->of[SWITCHES]);
+    require(judged(SETTINGS, lent) == answer, "the order of the switches matters");
+}
+
 /* In half of the rounds score and state are left as they were made, so that there is a run from the start state. */
 static void play_round(void)
 {
@@ -636,8 +756,8 @@ static void play_round(void)
     int from_start = one_in(2), i;
     uint64_t checked, answer;
     uint32_t number;
-    make(made.of, from_start);
-    make(other.of, from_start);
+    make(&made, from_start);
+    make(&other, from_start);
     for (i = from_start ? INPUT : SCORE; i < BUFFERS; i++)
         while (one_in(i == SCORE ? 2 : 6))
             mutate(&made.of[i], &other.of[i]);
@@ -657,6 +777,8 @@ static void play_round(void)
         if (from_start)
             judge_journal(&lent, score_answer_value(answer), &other.of[INPUTS]);
     }
+    lent = made;
+    judge_settings(&lent);
     lent = made;
     if (one_in(2))
         lent.of[JOURNAL] = made.of[INPUTS];
@@ -703,6 +825,10 @@ static void report(uint64_t rounds)
     report_met("drafts with watches", watches_met, rounds);
     report_met("clashes", clashes_met, rounds);
     report_met("journals that show outputs in a clash", sent_clashes_met, rounds);
+    report_met("counts with settings quiet", settings_met[SCORE_QUIET], rounds);
+    report_met("counts with settings that clash", settings_met[SCORE_CLASH], rounds);
+    report_met("counts with settings that abort", settings_met[SCORE_ABORTED], rounds);
+    report_met("counts with settings quiet and not", mixed_settings_met, rounds);
     report_scratch_lengths(rounds);
 }
 

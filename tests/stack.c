@@ -2,7 +2,8 @@
  *
  * Usage: stack SCORE
  * Each call is measured on the score in the file and on ones that are as large as a score can be, in a clash and in an
- * instant that sends what it can; the translation also on the longest chains of bodies and calls.
+ * instant that sends what it can; the settings of switches also where there are most of them; the translation also on
+ * the longest chains of bodies and calls.
  */
 #include <stdio.h>
 #include <string.h>
@@ -21,6 +22,9 @@ static uint8_t state[SCORE_STATE_BYTES], input[SCORE_MAP_BYTES], store[SCORE_MAP
 static uint8_t inputs[2 * SCORE_WORD_BYTES], journal[SCORE_MAX_JOURNAL_INSTANT_BYTES], scratch[SCORE_SCRATCH_BYTES];
 static size_t journal_len;
 static uint8_t plain[SCORE_MAX_BYTES];
+static const uint8_t switches[SCORE_MAX_SWITCHES] = {0, 1, 2, 3, 4, 5, 6, 7, 8, 9, 10, 11, 12, 13, 14, 15};
+static size_t switches_len;
+static uint32_t pressed;
 static uint64_t answer;
 
 static uint32_t word_at(const uint8_t *bytes, size_t word)
@@ -103,6 +107,19 @@ static void build_rounds(uint32_t branches)
     score_len = SCORE_WORD_BYTES * word;
 }
 
+/* A when on each of 16 tokens, each beside the whens before it. */
+static void build_small(void)
+{
+    uint32_t word = begin(SCORE_MAX_SWITCHES, 2 * SCORE_MAX_SWITCHES + 1, 1), token;
+    put_word(score, word++, 0x40000000);
+    for (token = 0; token < SCORE_MAX_SWITCHES; token++) {
+        put_word(score, word++, 0x70000000 | token << 10);
+        put_word(score, word++, 0x60000000 | 2 * token | (2 * token + 1) << 10);
+    }
+    put_word(score, word++, 0x30000000 | 2 * SCORE_MAX_SWITCHES);
+    score_len = SCORE_WORD_BYTES * word;
+}
+
 static void start(void)
 {
     uint32_t agents = (word_at(score, 0) >> 8 & 0x3FF) + 1;
@@ -132,6 +149,11 @@ static void run(void)
 static void journal_check(void)
 {
     answer = score_journal_check(score, score_len, journal, journal_len, scratch, sizeof scratch);
+}
+
+static void settings(void)
+{
+    answer = score_settings(score, score_len, state, sizeof state, switches, switches_len, pressed);
 }
 
 static void translate(void)
@@ -171,9 +193,19 @@ static int translation_held(uint32_t number)
     return held_at(number, "score_translate", used_by(translate), SCORE_TRANSLATE_STACK_BYTES);
 }
 
+/* So many of the first tokens are switches, and so many of them are pressed, from the start state. */
+static int settings_held(size_t count, uint32_t k)
+{
+    switches_len = count;
+    pressed = k;
+    start();
+    return held("score_settings", used_by(settings), SCORE_SETTINGS_STACK_BYTES);
+}
+
 /* The input is token 0, the clash, which answers all that waits, or token 1, with which outputs are sent. */
 static int all_held(uint32_t token)
 {
+    uint32_t tokens = (word_at(score, 0) & 0xFF) + 1;
     int right;
     right = held("score_check", used_by(check), SCORE_CHECK_STACK_BYTES);
     start();
@@ -189,7 +221,16 @@ static int all_held(uint32_t token)
         journal_len += SCORE_WORD_BYTES;
     right &= held("score_journal_check", used_by(journal_check), SCORE_JOURNAL_CHECK_STACK_BYTES);
     right &= score_answer_value(answer) == 1;
+    right &= settings_held(tokens < SCORE_MAX_SWITCHES ? tokens : SCORE_MAX_SWITCHES, 2);
     return right & translation_held(SCORE_ACCEPTED);
+}
+
+/* As many settings as there can be, of which those that press token 0 clash. */
+static int most_settings_held(void)
+{
+    build_small();
+    return settings_held(SCORE_MAX_SWITCHES, SCORE_MAX_SWITCHES / 2)
+        && score_settings_count(answer, SCORE_QUIET) == 6435 && score_settings_count(answer, SCORE_CLASH) == 6435;
 }
 
 /* Chains without watches and with them; and rounds that fit, and rounds that do not. */
@@ -220,6 +261,7 @@ int main(int count, char **arguments)
     right &= all_held(0);
     build_largest(1);
     right &= all_held(1);
+    right &= most_settings_held();
     right &= chains_held();
     return right ? 0 : 1;
 }

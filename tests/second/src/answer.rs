@@ -10,6 +10,8 @@ pub enum Answer {
     Accepted(u64),
     /// An accepted instant.
     Instant { status: u32, count: u32 },
+    /// How many settings end with status 0, with 1 and with 2.
+    Settings([u32; 3]),
     /// The table's number, and the value that the table returns with it, or 0.
     Refused { number: u32, value: u64 },
 }
@@ -21,6 +23,9 @@ pub const fn refused(number: u32, value: u64) -> Answer {
 }
 
 const LAYOUT: u32 = 61;
+
+const SETTINGS_LAYOUT: u64 = 5;
+const SETTINGS_BITS: u32 = 14;
 
 /// The numbers whose value may be as large as a buffer's count of words have layouts of their own.
 const WIDE: RangeInclusive<u32> = 13..=15;
@@ -39,6 +44,10 @@ impl Answer {
         match self {
             Answer::Accepted(value) => value,
             Answer::Instant { status, count } => 1 << LAYOUT | u64::from(status) << 32 | u64::from(count) << 34,
+            Answer::Settings([quiet, clash, aborted]) => {
+                let counts = u64::from(aborted) << (2 * SETTINGS_BITS) | u64::from(clash) << SETTINGS_BITS;
+                SETTINGS_LAYOUT << LAYOUT | counts | u64::from(quiet)
+            }
             Answer::Refused { number, value } if WIDE.contains(&number) => {
                 u64::from(number - FIRST_WIDE + FIRST_WIDE_LAYOUT) << LAYOUT | value
             }
@@ -55,6 +64,7 @@ impl Answer {
                 Answer::Instant { status: (packed >> 32 & 3) as u32, count: (packed >> 34 & 0x7FF) as u32 }
             }
             1 => refused((packed & 0xFF) as u32, packed >> 8 & 0xFF_FFFF),
+            5 => Answer::Settings([0, 1, 2].map(|status| (packed >> (SETTINGS_BITS * status) & 0x3FFF) as u32)),
             layout => refused(layout + FIRST_WIDE - FIRST_WIDE_LAYOUT, wide),
         }
     }
@@ -65,6 +75,9 @@ impl fmt::Display for Answer {
         match self {
             Answer::Accepted(value) => write!(to, "accepted, value {value}"),
             Answer::Instant { status, count } => write!(to, "status {status} count {count}"),
+            Answer::Settings([quiet, clash, aborted]) => {
+                write!(to, "{quiet} settings quiet, {clash} a clash, {aborted} aborted")
+            }
             Answer::Refused { number, value } => write!(to, "number {number} value {value}"),
         }
     }

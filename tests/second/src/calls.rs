@@ -6,7 +6,7 @@ use crate::engine::{self, End};
 use crate::lent::*;
 use crate::random::Random;
 use crate::scratch::Scratch;
-use crate::{draft, oracle, translate};
+use crate::{draft, oracle, settings, translate};
 
 #[derive(Clone)]
 pub struct InstantLent {
@@ -38,6 +38,15 @@ pub struct JournalCheckLent {
 pub struct TranslateLent {
     pub draft: Vec<u8>,
     pub plain: Vec<u8>,
+}
+
+/// What is lent to a count of settings, and how many switches are pressed.
+#[derive(Clone)]
+pub struct SettingsLent {
+    pub score: Vec<u8>,
+    pub state: Vec<u8>,
+    pub switches: Vec<u8>,
+    pub k: u32,
 }
 
 /// The buffers of a call, with their names in the header.
@@ -73,6 +82,12 @@ impl Lent for RunLent {
 impl Lent for JournalCheckLent {
     fn buffers(&self) -> Vec<(&'static str, &[u8])> {
         vec![("score", &self.score), ("journal", &self.journal), ("scratch", &self.scratch)]
+    }
+}
+
+impl Lent for SettingsLent {
+    fn buffers(&self) -> Vec<(&'static str, &[u8])> {
+        vec![("score", &self.score), ("state", &self.state), ("switches", &self.switches)]
     }
 }
 
@@ -253,6 +268,22 @@ fn answer_journal_check(lent: &mut JournalCheckLent, random: &mut Random) -> Res
         state = instant.next;
     }
     Ok(Answer::Accepted(read))
+}
+
+/// Nothing is written.
+pub fn settings_call(lent: &SettingsLent, random: &mut Random) -> (Answer, SettingsLent) {
+    (answer_settings(lent, random).unwrap_or_else(|refusal| refusal), lent.clone())
+}
+
+fn answer_settings(lent: &SettingsLent, random: &mut Random) -> Result<Answer, Answer> {
+    let score = checked(&lent.score)?;
+    check_lengths(&[(&lent.state, STATE_BYTES)])?;
+    let state = State::read(&score, &lent.state).ok_or(refused(9, 0))?;
+    if !settings::faults(&score, &lent.switches, lent.k).is_empty() {
+        return Err(refused(17, 0));
+    }
+    let switches: Vec<Token> = lent.switches.iter().map(|&token| token.into()).collect();
+    Ok(Answer::Settings(settings::counts(&score, &state, &switches, lent.k as usize, random)))
 }
 
 pub fn translate_call(lent: &TranslateLent) -> (Answer, TranslateLent) {

@@ -63,6 +63,18 @@ impl Score {
     }
 }
 
+/// A score of one procedure, whose root is the last agent, with all tokens at the ports.
+pub fn one_procedure(tokens: u32, agents: &[u32], rules: &[u32]) -> Vec<u32> {
+    let score = Score {
+        tokens,
+        ports: words::ports(0, tokens - 1),
+        agents: agents.to_vec(),
+        procedures: vec![words::procedure(agents.len() as u32 - 1)],
+        rules: rules.to_vec(),
+    };
+    score.words()
+}
+
 #[derive(Clone, Copy)]
 struct Sizes {
     tokens: u32,

@@ -20,6 +20,7 @@ pub mod sample;
 pub mod scenes;
 pub mod scratch;
 pub mod sequence;
+pub mod settings;
 pub mod tests;
 pub mod translate;
 pub mod weight;

@@ -195,6 +195,34 @@ pub fn telling_score(random: &mut Random) -> Vec<u8> {
     score.bytes()
 }
 
+/// A small score of so many tokens, or a few more, in which pressing tokens leads to clashes or aborts, or to neither.
+pub fn switchboard(random: &mut Random, tokens: u32) -> Vec<u8> {
+    let tokens = (tokens + random.below(3)).min(256);
+    let sizes =
+        Sizes { tokens, agents: random.between(1, 12), procedures: random.between(1, 3), rules: random.below(5) };
+    let rates = Rates { aborts: false, clash: 64, ..rates(random) };
+    let mut score = build_at(random, sizes, rates);
+    for _ in 0..random.pick(&[0, 0, 1, 1, 2, 4]) {
+        score.rules.push(words::rule(0, random.below(tokens), random.below(tokens)));
+    }
+    for _ in 0..random.pick(&[0, 0, 0, 1, 1, 2]) {
+        abort_when(random, &mut score);
+    }
+    score.bytes()
+}
+
+/// Sets an abort beside the root of procedure 0, under a when or two.
+fn abort_when(random: &mut Random, score: &mut Score) {
+    let (root, first) = (score.procedures[0] & 0x3FF, score.agents.len() as u32);
+    score.agents.extend([words::abort(), words::when(first, random.below(score.tokens))]);
+    if random.one_in(2) {
+        score.agents.push(words::when(first + 1, random.below(score.tokens)));
+    }
+    let last = score.agents.len() as u32 - 1;
+    score.agents.push(words::parallel(root, last));
+    score.procedures[0] = words::procedure(last + 1);
+}
+
 pub fn large_score(random: &mut Random) -> Vec<u8> {
     let sizes = large(random);
     build(random, sizes).bytes()

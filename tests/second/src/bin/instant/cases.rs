@@ -5,6 +5,7 @@ use second::answer::{refused, Answer};
 use second::calls::{instant_call, InstantLent};
 use second::chains::{self, worst_order, Chain, Start, CALL};
 use second::decoded::Decoded;
+pub use second::generate::one_procedure as score;
 use second::generate::Score;
 use second::guarded::GUARDS;
 use second::lent::*;
@@ -188,18 +189,6 @@ fn other_length(met: &mut Met, which: usize, length: impl Fn(usize) -> usize) ->
     let length = length(buffers[which].len());
     buffers[which].resize(length, 0);
     turned_down(met, lent, 8, 0)
-}
-
-/// A score of one procedure, whose root is the last agent, with all tokens at the ports.
-pub fn score(tokens: u32, agents: &[u32], rules: &[u32]) -> Vec<u32> {
-    let score = Score {
-        tokens,
-        ports: ports(0, tokens - 1),
-        agents: agents.to_vec(),
-        procedures: vec![procedure(agents.len() as u32 - 1)],
-        rules: rules.to_vec(),
-    };
-    score.words()
 }
 
 fn small() -> Vec<Case> {
