@@ -14,7 +14,7 @@ RUNNER = target/bin/runner
 # Where make install puts things: include/, lib/, lib/pkgconfig/ and bin/ in it. DESTDIR is put before it.
 PREFIX = /usr/local
 prefix = $(abspath $(PREFIX))
-VERSION = 3.1.0
+VERSION = 4.0.0
 
 # A library made of an engine that is written by hand, passes or linear, for trying the tests.
 ENGINE = linear

@@ -35,6 +35,9 @@ static const char *const refusals[][2] = {
     {"word", "it may not stand there in a list or journal, or its token is not in this score"},
     {"instant", "the journal is not what the score plays"},
     {"instants written", "the journal has no room for the next instant"},
+    {"", "the plain score of a draft would be too large"},
+    {"", "the switches are not ones of this score, each listed once, or more are to be pressed than there are"},
+    {"instants written", "the instant has no number: the state has the last that there is"},
 };
 
 /* Whether an answer is a refusal; if so, says what is wrong. */
@@ -63,7 +66,7 @@ static void put_word(uint8_t *bytes, size_t word, uint32_t value)
         bytes[SCORE_WORD_BYTES * word + i] = (uint8_t)(value >> 8 * i);
 }
 
-/* The start state of an accepted score: running, with the root of procedure 0 awake. */
+/* The start state of an accepted score: running, with the root of procedure 0 awake, at instant 0. */
 static void start(void)
 {
     uint32_t agents = (word_at(score, 0) >> 8 & 0x3FF) + 1, root = word_at(score, 2 + agents) & 0x3FF;
@@ -79,12 +82,13 @@ static size_t play(size_t score_len)
     size_t words = 0;
     uint32_t i, token;
     for (i = 0; i < INSTANTS; i++) {
+        uint32_t number = score_state_number(state); /* the one that a stage manager calls cues by */
         uint64_t answer = score_instant(score, score_len, state, sizeof state, switches[i], sizeof switches[i], store,
                                         sizeof store, output, sizeof output, scratch, sizeof scratch);
         if (refused("instant", answer))
             return 0;
-        printf("instant %u: %s, %u agents reduced, outputs", (unsigned)i, statuses[score_answer_status(answer)],
-               (unsigned)score_answer_count(answer));
+        printf("instant %lu: %s, %u agents reduced, outputs", (unsigned long)number,
+               statuses[score_answer_status(answer)], (unsigned)score_answer_count(answer));
         put_word(list, words++, SCORE_INSTANT_WORD);
         for (token = 0; token < SCORE_MAX_TOKENS; token++) {
             if (switches[i][token / 8] >> token % 8 & 1)
@@ -123,7 +127,8 @@ int main(int count, char **arguments)
         return 1;
     while (words < sizeof journal / SCORE_WORD_BYTES && word_at(journal, words) != 0)
         words++; /* the run wrote over zeros, and no word of a journal is 0 */
-    printf("run: %lu instants, %lu words\n", (unsigned long)score_answer_value(answer), (unsigned long)words);
+    printf("run: %lu instants, %lu words, next is instant %lu\n", (unsigned long)score_answer_value(answer),
+           (unsigned long)words, (unsigned long)score_state_number(state));
 
     answer = score_journal_check(score, score_len, journal, SCORE_WORD_BYTES * words, scratch, sizeof scratch);
     if (refused("journal", answer))

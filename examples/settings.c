@@ -33,7 +33,7 @@ static uint32_t word_at(size_t word)
     return (uint32_t)byte[0] | (uint32_t)byte[1] << 8 | (uint32_t)byte[2] << 16 | (uint32_t)byte[3] << 24;
 }
 
-/* The start state of an accepted score: running, with the root of procedure 0 awake. */
+/* The start state of an accepted score: running, with the root of procedure 0 awake, at instant 0. */
 static void start(void)
 {
     uint32_t agents = (word_at(0) >> 8 & 0x3FF) + 1, root = word_at(2 + agents) & 0x3FF;

@@ -48,19 +48,24 @@ extern "C" {
 #define SCORE_MAX_BYTES 5384
 
 /* The lengths of what is lent beside a score; any other is refused with SCORE_BUFFER. */
-#define SCORE_STATE_BYTES 132
+#define SCORE_STATE_BYTES 136
 #define SCORE_MAP_BYTES 32
 #define SCORE_SCRATCH_BYTES 128 /* a bit for each agent */
 #define SCORE_PLAIN_BYTES 5384 /* for a plain score */
 
 /* A map is a set of tokens: token t is bit t % 8 of byte t / 8.
  *
- * A state is 33 words: word 0 is one of the two below; agent i is bit i % 32 of word 1 + i / 32, which is bit i % 8 of
- * byte 4 + i / 8. Any set of the score's agents may be awake in a running state; an aborted one has none. The start
- * state is a running one with the root of procedure 0, which stands in bits 9..0 of word 2 + N of the score.
+ * A state is 34 words: word 0 is one of the two below; agent i is bit i % 32 of word 1 + i / 32, which is bit i % 8 of
+ * byte 4 + i / 8; word 33, bytes 132 to 135, is the instant number: how many instants were run since the start, aborted
+ * ones included. Any set of the score's agents may be awake in a running state; an aborted one has none; both have any
+ * number. The start state is a running one with the root of procedure 0, which stands in bits 9..0 of word 2 + N of the
+ * score, and number 0. score_state_number, at the end of this file, reads the number.
  */
 #define SCORE_STATE_RUNNING UINT32_C(0xF0000000)
 #define SCORE_STATE_ABORTED UINT32_C(0xF0000001)
+
+/* The last number that a state can have. No instant is played from there: one that is wanted meets SCORE_LAST. */
+#define SCORE_LAST_NUMBER UINT32_C(0xFFFFFFFF)
 
 /* An input list has, for each instant, SCORE_INSTANT_WORD, then SCORE_INPUT_WORD | token for each input token, rising
  * strictly. A journal has, for each instant, SCORE_INSTANT_WORD | status, then the input words, then
@@ -106,8 +111,10 @@ enum {
     SCORE_ROOM = 15,        /* the next instant's words exceed the journal bytes left; value: the instants written */
     SCORE_LARGE = 16,       /* the plain score of a draft would have more than SCORE_MAX_TOKENS, SCORE_MAX_AGENTS,
                                SCORE_MAX_PROCEDURES or SCORE_MAX_RULES */
-    SCORE_SWITCHES = 17     /* more than SCORE_MAX_SWITCHES switches, one that is listed twice, one that is T or above,
+    SCORE_SWITCHES = 17,    /* more than SCORE_MAX_SWITCHES switches, one that is listed twice, one that is T or above,
                                or more to be pressed than there are */
+    SCORE_LAST = 18         /* an instant is wanted at SCORE_LAST_NUMBER; value: the instants written by a run, 0 of an
+                               instant */
 };
 
 /* The statuses of instants. */
@@ -139,7 +146,7 @@ SCORE_MUST_USE uint64_t score_check(const uint8_t *score, size_t score_len);
  *   score    which is checked first, as score_check does;
  *   input    the instant's input tokens, a map.
  * Lent to be written:
- *   state    the agents awake; afterwards those awake next;
+ *   state    the agents awake; afterwards those awake next, and a number higher by one;
  *   store    afterwards the map of the tokens in the store at the instant's end, standing facts among them;
  *   output   afterwards the map of those of them from the lowest to the highest port, but at status 1 of none: a
  *            clash commands nothing;
@@ -147,18 +154,20 @@ SCORE_MUST_USE uint64_t score_check(const uint8_t *score, size_t score_len);
  *            The count is the number of bits set, status 2 aside; they are cleared before the call returns.
  * To start a score, lend its start state; for each later instant lend the state as the last one left it.
  *
- * The answer's number is 0 (accepted) or one of 1 to 11; the lowest that applies is returned, 1 to 7 in the order of
- * score_check. Its value is that of score_check for 1 to 7, and 0 otherwise. An accepted answer has a status and a
- * count: how many distinct agents of the score were reduced by the end of the instant, input tokens left out.
+ * The answer's number is 0 (accepted) or one of 1 to 11 and 18. They are tried in the order 1 to 10, 18, 11, with 1 to
+ * 7 as in score_check. Its value is that of score_check for 1 to 7, and 0 otherwise. An accepted answer has a status
+ * and a count: how many distinct agents of the score were reduced by the end of the instant, input tokens left out.
  *
  *   number     status      state             store                 output                scratch
  *   0          0           the next state    written, every byte   written, every byte   zero, every byte
  *   0          1           the next state    written, all T        written, no tokens    zero, every byte
  *   0          2, count 0  aborted           written, no tokens    written, no tokens    zero, every byte
  *   1 to 10    none        as it was         as it was             as it was             as it was
+ *   18         none        as it was         as it was             as it was             as it was
  *   11         none        as it was         as it was             as it was             zero, every byte
  *
- * An aborted state answers status 2 at each later instant, and stays as it is. It switches off no test.
+ * An aborted state answers status 2 at each later instant; only its number changes. It switches off no test, 18 among
+ * them.
  */
 SCORE_MUST_USE uint64_t score_instant(const uint8_t *score, size_t score_len, uint8_t *state, size_t state_len,
                                       const uint8_t *input, size_t input_len, uint8_t *store, size_t store_len,
@@ -171,14 +180,16 @@ SCORE_MUST_USE uint64_t score_instant(const uint8_t *score, size_t score_len, ui
  *   score    which is checked first, as score_check does;
  *   inputs   the input list.
  * Lent to be written:
- *   state    the agents awake; afterwards those awake after the last instant written;
+ *   state    the agents awake; afterwards those awake after the last instant written, and a number higher by as many
+ *            as were written;
  *   journal  of any length, and with any old content; afterwards the journal of the instants written, from its first
  *            byte on, and beyond them what it held;
  *   scratch  the call's working space, whatever it holds; each instant uses it as in score_instant and leaves it zero.
  *
- * The answer's number is 0 (accepted) or one of 1 to 9, 11, 12, 13 and 15. 1 to 9 are tried as in score_instant, then
- * 12 and 13 over the whole list before the first instant, then 11 and 15 at each instant. An instant is written whole
- * or not at all. The run starts at the lent state, so that a list may be run in parts, one after the other.
+ * The answer's number is 0 (accepted) or one of 1 to 9, 11, 12, 13, 15 and 18. 1 to 9 are tried as in score_instant,
+ * then 12 and 13 over the whole list before the first instant, then 11, 18 and 15, in this order, at each instant. An
+ * instant is written whole or not at all. A list of no instants is accepted at SCORE_LAST_NUMBER too. The run starts at
+ * the lent state, so that a list may be run in parts, one after the other.
  *
  *   number     value                state                        journal                          scratch
  *   0          instants written     after the last instant       all instants, then as it was     zero, every byte
@@ -186,7 +197,7 @@ SCORE_MUST_USE uint64_t score_instant(const uint8_t *score, size_t score_len, ui
  *   8, 9, 12   0                    as it was                    as it was                        as it was
  *   13         word of the list     as it was                    as it was                        as it was
  *   11         0                    after the instants written   those before, then as it was     zero, every byte
- *   15         instants written     after the instants written   those instants, then as it was   zero, every byte
+ *   15, 18     instants written     after the instants written   those instants, then as it was   zero, every byte
  *
  * The answer does not say how many bytes were written. No word of a journal is 0: where the buffer was cleared before
  * the run, the journal ends at the first word that is 0, or where no word is left. A journal has the words of the list
@@ -207,7 +218,8 @@ SCORE_MUST_USE uint64_t score_run(const uint8_t *score, size_t score_len, uint8_
  * The answer's number is 0 (accepted) or one of 1 to 8 and 11 to 14. 1 to 8 are tried as in score_instant, then 12 and
  * 13 over the whole journal before the first instant, then 11 and 14 at each instant. A journal that ends early, at
  * an instant's end, is a journal. One with output words in an instant of status 1, as versions before 3 wrote them, has
- * its form and meets 14 there.
+ * its form and meets 14 there. So does one with more instants than a run from the start can write, at instant
+ * SCORE_LAST_NUMBER.
  *
  *   number     value                                              scratch
  *   0          instants read                                      zero, every byte
@@ -226,7 +238,7 @@ SCORE_MUST_USE uint64_t score_journal_check(const uint8_t *score, size_t score_l
  *
  * Lent and only read:
  *   score     which is checked first, as score_check does;
- *   state     from which each setting is tried;
+ *   state     from which each setting is tried; its number is ignored, and may be SCORE_LAST_NUMBER;
  *   switches  a byte for each switch, its token; at most SCORE_MAX_SWITCHES, each listed once, in any order.
  *
  * The answer's number is 0 (accepted) or one of 1 to 9 and 17, tried in this order. Its value is that of score_check
@@ -265,9 +277,9 @@ SCORE_MUST_USE uint64_t score_translate(const uint8_t *draft, size_t draft_len, 
 
 /* An answer's top three bits say how the rest is laid out: 0, accepted, with the value in bits 60..0;
  * 1, the number in bits 7..0, the value in bits 31..8, and of an accepted instant, whose number is 0, the status in
- * bits 33..32 and the count in bits 44..34; 2, 3 and 4, the numbers 13, 14 and 15, whose value may be as large as a
- * buffer's count of words, in bits 60..0; 5, accepted settings, with the count of status 0 in bits 13..0, of 1 in
- * bits 27..14 and of 2 in bits 41..28. No answer has 6 or 7 there.
+ * bits 33..32 and the count in bits 44..34; 2, 3, 4 and 7, the numbers 13, 14, 15 and 18, whose value may be as large
+ * as a buffer's count of words, in bits 60..0; 5, accepted settings, with the count of status 0 in bits 13..0, of 1 in
+ * bits 27..14 and of 2 in bits 41..28. No answer has 6 there.
  */
 
 /* 0 for accepted, or the number of the refusal. */
@@ -314,6 +326,12 @@ static inline uint32_t score_settings_count(uint64_t answer, uint32_t status)
     if (answer >> 61 == 5 && status <= SCORE_ABORTED)
         return (uint32_t)(answer >> 14 * status & 0x3FFF);
     return 0;
+}
+
+/* The instant number of a state, SCORE_STATE_BYTES bytes: how many instants were run since the start. */
+static inline uint32_t score_state_number(const uint8_t *state)
+{
+    return (uint32_t)state[132] | (uint32_t)state[133] << 8 | (uint32_t)state[134] << 16 | (uint32_t)state[135] << 24;
 }
 
 #ifdef __cplusplus

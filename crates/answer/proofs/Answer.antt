@@ -1,14 +1,13 @@
 -- The caller reads what was answered.
 --     none-beyond     no settings end with a status beyond 2
 --     exact           the claim of specs/Answer
-use mathlib.Core.Path.{_≡_, sym, ap, _∙_}
+use mathlib.Core.Path.{_≡_, refl, sym, ap, _∙_}
 use Prim.Native.Nat.{ℕ, zero, suc, _+_, _*_, _-_, _/_, _%_, _^_, _<_, _≤_}
-use native.Mathlib.Decide.{decLt}
 use native.Mathlib.Omega.{arith}
-use mathlib.Core.Bool.{false}
+use mathlib.Core.Bool.{Bool, true, false, cond}
 use borrow.Author.Tests.{ne-eqb, lt-leb}
 use Rattle.answer.specs.Answer.{accepted, refused, settled, counted, isWide, packed, settingsOf, numberIn, valueIn, statusIn, countIn, settingsIn, Reads, Exact}
-use Rattle.answer.proofs.Widths.{is-wide, not-wide, late-wide}
+use Rattle.answer.proofs.Widths.{wide-layout}
 
 -- what is read of layout 1
 record Short (a n v s c : ℕ) : Type 0 where
@@ -44,14 +43,14 @@ accepted-read v h =
     let m : v % 2 ^ 61 ≡ v = omega arith in
     record { number = rw l; value = rw l m; status = rw l; count = rw l; settings = λ t. rw l }
 
-long-read : (l v a n : ℕ) → 2 ≤ l → l ≤ 4 → v < 2 ^ 61 → a ≡ l * 2 ^ 61 + v → l + 11 ≡ n → Reads a (refused n v)
+long-read : (l v a n : ℕ) → 2 ≤ l → l ≤ 7 → (l ≡ 5 → ⊥) → v < 2 ^ 61 → a ≡ l * 2 ^ 61 + v → l + 11 ≡ n → Reads a (refused n v)
 unfolding numberIn valueIn statusIn countIn settingsIn
-long-read l v a n hl hm hv e en =
+long-read l v a n hl hm ne hv e en =
     let d : a / 2 ^ 61 ≡ l = omega arith in
     let m : a % 2 ^ 61 ≡ v = omega arith in
     let z = ne-eqb l 0 (λ z. omega arith) in
     let o = ne-eqb l 1 (λ z. omega arith) in
-    let f = ne-eqb l 5 (λ z. omega arith) in
+    let f = ne-eqb l 5 ne in
     record { number = rw (d, z, o, f) en; value = rw (d, o, f) m; status = rw (d, o); count = rw (d, o); settings = λ t. rw (d, f) }
 
 pub none-beyond : (q c a n : ℕ) → 2 < n → settingsOf (counted q c a) n ≡ 0
@@ -82,18 +81,14 @@ module _ (q c a n : ℕ) (hq : q < 2 ^ 14) (hc : c < 2 ^ 14) (ha : a < 2 ^ 14) (
 pub exact : Exact
 unfolding packed
 exact (accepted v) f = accepted-read v f
-exact (refused n v) f = go (decLt n 13) (decLt 15 n)
+exact (refused n v) f = go (isWide n) refl (f .2)
   where
-    small : isWide n ≡ false → v < 2 ^ 24 → Reads (packed (refused n v)) (refused n v)
-    small e h =
+    go : (b : Bool) → isWide n ≡ b → v < cond b (2 ^ 61) (2 ^ 24) → Reads (packed (refused n v)) (refused n v)
+    go true e h = let w = wide-layout n e in long-read (n - 11) v (packed (refused n v)) n (omega (arith, w .0)) (omega (arith, w .1)) (λ z. w .2 (omega (arith, w .0))) h (rw e) (omega (arith, w .0))
+    go false e h =
         let q : packed (refused n v) ≡ 2 ^ 61 + v * 2 ^ 8 + n = rw e in
-        let r = short-read n v 0 0 (packed (refused n v)) (f .0) h (omega arith) (omega arith) (omega arith) in
+        let r = short-read n v 0 0 (packed (refused n v)) (f .1) h (omega arith) (omega arith) (omega arith) in
         record { number = r .number; value = r .value; status = r .status; count = r .count; settings = r .settings }
-
-    go : Dec (n < 13) → Dec (15 < n) → Reads (packed (refused n v)) (refused n v)
-    go (yes h) d = small (not-wide n h) (f .2 h)
-    go (no h) (yes k) = small (late-wide n k) (f .3 k)
-    go (no h) (no k) = long-read (n - 11) v (packed (refused n v)) n (omega arith) (omega arith) (f .1) (rw (is-wide n (omega arith) (omega arith))) (omega arith)
 exact (settled s c) f =
     let r = short-read 0 0 s c (packed (settled s c)) (omega arith) (omega arith) (f .0) (f .1) (omega arith) in
     record { number = r .number; value = r .value; status = r .status; count = r .count; settings = r .settings }

@@ -1,18 +1,24 @@
 -- Which numbers may have a large value.
---     is-wide, not-wide, late-wide      13 to 15, none below and none above
-use mathlib.Core.Path.{_≡_}
-use mathlib.Core.Bool.{true, false, and-false}
+--     not-wide        none below 13
+--     wide-layout     each has a layout of its own
+use mathlib.Core.Path.{_≡_, refl}
+use mathlib.Core.Bool.{Bool, true, false, _&&_, _||_}
 use Prim.Native.Nat.{ℕ, _<_, _≤_}
-use lib.Dec.{leb}
-use borrow.Author.Tests.{le-leb, lt-leb}
-use Rattle.laws.proofs.Booleans.{both-and}
+use native.Mathlib.Omega.{arith}
+use lib.Dec.{eqb, leb}
+use borrow.Author.Tests.{leb-true, eqb-true, lt-leb, ne-eqb}
+use Rattle.laws.proofs.Booleans.{true-is-false}
 use Rattle.answer.specs.Answer.{isWide}
 
-pub is-wide : (n : ℕ) → 13 ≤ n → n ≤ 15 → isWide n ≡ true
-is-wide n low high = both-and (le-leb 13 n low) (le-leb n 15 high)
-
 pub not-wide : (n : ℕ) → n < 13 → isWide n ≡ false
-not-wide n h = rw (lt-leb 13 n h)
+not-wide n h = rw (lt-leb 13 n h, ne-eqb n 18 (λ e. omega arith))
 
-pub late-wide : (n : ℕ) → 15 < n → isWide n ≡ false
-late-wide n h = rw (lt-leb n 15 h, and-false (leb 13 n))
+pub wide-layout : (n : ℕ) → isWide n ≡ true → (13 ≤ n) × (n ≤ 18) × (n ≡ 16 → ⊥)
+wide-layout n = go (leb 13 n) refl (leb n 15) refl (eqb n 18) refl
+  where
+    go : (a : Bool) → leb 13 n ≡ a → (b : Bool) → leb n 15 ≡ b → (c : Bool) → eqb n 18 ≡ c → ((a && b) || c) ≡ true → (13 ≤ n) × (n ≤ 18) × (n ≡ 16 → ⊥)
+    go true p true q c r e = (leb-true 13 n p, omega (arith, leb-true n 15 q), λ z. omega (arith, leb-true n 15 q))
+    go true p false q true r e = let h : n ≡ 18 = eqb-true n 18 r in (omega arith, omega arith, λ z. omega arith)
+    go true p false q false r e = absurd (true-is-false e refl)
+    go false p b q true r e = let h : n ≡ 18 = eqb-true n 18 r in (omega arith, omega arith, λ z. omega arith)
+    go false p b q false r e = absurd (true-is-false e refl)

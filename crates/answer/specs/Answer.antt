@@ -1,6 +1,6 @@
 -- An answer as one number of 64 bits. The top three bits say how the rest is laid out: 0, accepted, with the value
 -- in the other 61; 1, the number in bits 7 to 0, the value in bits 31 to 8, and of an accepted instant, whose number
--- is 0, the status in bits 33 and 32 and the count in bits 44 to 34; 2, 3 and 4, the numbers 13, 14 and 15, whose
+-- is 0, the status in bits 33 and 32 and the count in bits 44 to 34; 2, 3, 4 and 7, the numbers 13, 14, 15 and 18, whose
 -- value may be as large as a slice's count of words, with the value in the other 61; 5, settings counted, whose number is
 -- 0, those of status 0 in bits 13 to 0, of 1 in bits 27 to 14, of 2 in bits 41 to 28.
 --     Reply                      accepted with a value, refused by number with a value, an instant accepted with its
@@ -63,11 +63,11 @@ settingsOf (settled s c) n = 0
 settingsOf (counted q c a) n = cond (eqb n 0) q (cond (eqb n 1) c (cond (eqb n 2) a 0))
 
 abbrev pub isWide : ℕ → Bool
-isWide n = leb 13 n && leb n 15
+isWide n = (leb 13 n && leb n 15) || eqb n 18
 
 abbrev pub Fits : Reply → Type 0
 Fits (accepted v) = v < 2 ^ 61
-Fits (refused n v) = (n < 2 ^ 8) × (v < 2 ^ 61) × (n < 13 → v < 2 ^ 24) × (15 < n → v < 2 ^ 24) × (1 ≤ n)
+Fits (refused n v) = (1 ≤ n) × (n < 2 ^ 8) × (v < cond (isWide n) (2 ^ 61) (2 ^ 24))
 Fits (settled s c) = (s < 4) × (c < 2 ^ 11)
 Fits (counted q c a) = (q < 2 ^ 14) × (c < 2 ^ 14) × (a < 2 ^ 14)
 

@@ -24,6 +24,7 @@ ofReply (instants.Score v) = ofVerdict v
 ofReply instants.Lengths = refused 8 0
 ofReply instants.State = refused 9 0
 ofReply instants.Input = refused 10 0
+ofReply instants.Last = refused 18 0
 ofReply instants.Next = refused 11 0
 ofReply (instants.Settled status count) = settled status count
 
@@ -36,6 +37,7 @@ ofRunReply runs.Bytes = refused 12 0
 ofRunReply (runs.Word k) = refused 13 k
 ofRunReply (runs.Differs k) = refused 14 k
 ofRunReply (runs.Full n) = refused 15 n
+ofRunReply (runs.Last n) = refused 18 n
 ofRunReply (runs.Accepted n) = accepted n
 
 abbrev pub ofTranslation : TranslationReply → Reply

@@ -1,5 +1,5 @@
 ghost use mathlib.Core.Path.{_≡_};
-ghost use mathlib.Core.Bool.{false};
+ghost use mathlib.Core.Bool.{false, true};
 ghost use Prim.Native.Nat.{_<_, _≤_, _^_};
 ghost use Rattle.answer.specs.Answer.{refused, settled, counted, packed, isWide, Fits};
 ghost use Rattle.answer.specs.Replies.{ofVerdict, ofReply, ofRunReply, ofTranslation, ofSettings};
@@ -29,6 +29,7 @@ pub fn of_reply(reply: Reply) -> u64
         Reply::Lengths => refusal(8, 0),
         Reply::State => refusal(9, 0),
         Reply::Input => refusal(10, 0),
+        Reply::Last => wide(18, 0),
         Reply::Next => refusal(11, 0),
         Reply::Settled(status, count) => settling(status, count),
     }
@@ -48,6 +49,7 @@ pub fn of_run_reply(reply: history::Reply) -> u64
         history::Reply::Word(word) => wide(13, word),
         history::Reply::Differs(instant) => wide(14, instant),
         history::Reply::Full(instants) => wide(15, instants),
+        history::Reply::Last(instants) => wide(18, instants),
         history::Reply::Accepted(instants) => instants as u64,
     }
 }
@@ -82,7 +84,8 @@ pub fn of_settings(reply: counting::Reply) -> u64
 // An answer whose number may have a large value.
 fn wide(number: usize, value: usize) -> u64
     requires { ⌜ 13 ≤ number ⌝ }
-    requires { ⌜ number ≤ 15 ⌝ }
+    requires { ⌜ number ≤ 18 ⌝ }
+    requires { ⌜ isWide number ≡ true ⌝ }
     requires { ⌜ value < 2 ^ 61 ⌝ }
     ensures { λ r. ⌜ r ≡ packed (refused number value) ⌝ }
 {

@@ -1,10 +1,11 @@
 -- Contracts of inner functions: how an outcome is written to the lent buffers.
 --     Buffers        state and maps have their lengths
 --     Known          no agent and no token of an outcome is from past the score's
---     HandedOver     what the buffers hold: the state, the store and what goes to the ports, by the outcome's flags
+--     HandedOver     what the buffers hold: the state with its number, the store and what goes to the ports, by the
+--                    outcome's flags
 use mathlib.Core.Path.{_≡_}
 use mathlib.Core.Bool.{false, cond}
-use mathlib.Core.List.{List, _∷_}
+use mathlib.Core.List.{List, [], _∷_, _++_}
 use Prim.Native.Nat.{ℕ, _≤_}
 use lib.Dec.{eqb}
 use lib.ListN.{length, getD}
@@ -27,7 +28,7 @@ pub record Known (head : Sizes) (o : Outcome) : Type 0 where
   pub agents : (i : ℕ) → head .agents ≤ i → getD (o .awake) i false ≡ false
   pub tokens : (t : ℕ) → head .tokens ≤ t → getD (o .store) t false ≡ false
 
-pub record HandedOver (sc : Score) (o : Outcome) (state store sent : List ℕ) : Type 0 where
-  pub state-is : state ≡ bytesOf (cond (eqb (o .status) 2) abortedWord runningWord ∷ agentWords (setOf (o .awake)))
+pub record HandedOver (sc : Score) (o : Outcome) (number : ℕ) (state store sent : List ℕ) : Type 0 where
+  pub state-is : state ≡ bytesOf ((cond (eqb (o .status) 2) abortedWord runningWord ∷ agentWords (setOf (o .awake))) ++ number ∷ [])
   pub store-is : store ≡ mapOf (setOf (o .store))
   pub output-is : sent ≡ mapOf (output sc (o .status) (setOf (o .store)))

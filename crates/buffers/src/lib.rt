@@ -21,11 +21,12 @@ pub fn wrong_length(state: usize, input: usize, store: usize, output: usize, scr
         | (scratch != lent::SCRATCH_BYTES)
 }
 
-// Writes an answer: the next state, the store and what goes to the ports.
+// Writes an answer: the next state with its number, the store and what goes to the ports.
 pub fn hand_over(
     score: &[u8],
     head: Sizes,
     outcome: Outcome,
+    number: u32,
     state: &mut [u8],
     store: &mut [u8],
     output: &mut [u8],
@@ -34,12 +35,12 @@ pub fn hand_over(
     requires { ⌜ Playable (now score) ⌝ }
     requires { ⌜ Buffers (now state) (now store) (now output) ⌝ }
     requires { ⌜ Known head outcome ⌝ }
-    ensures { λ _. ⌜ HandedOver (decode (now (score .entry))) outcome (now (state .exit)) (now (store .exit)) (now (output .exit)) ⌝ }
+    ensures { λ _. ⌜ HandedOver (decode (now (score .entry))) outcome number (now (state .exit)) (now (store .exit)) (now (output .exit)) ⌝ }
 {
     let held = outcome.store;
     let awake = outcome.awake;
     let first = first_word(outcome.status);
-    lent::write_state(state, first, head.agents, awake);
+    lent::write_state(state, first, head.agents, awake, number);
     maps::write_map(store, head.tokens, held);
     let out = standing::sent(score, outcome.status, held);
     maps::write_map(output, head.tokens, out);

@@ -23,10 +23,11 @@ use Rattle.faults.specs.Faults.{wordVerdict, firstFault, lengthVerdict}
 use Rattle.circles.specs.Circles.{circleFrom}
 use Rattle.scorefile.specs.Check.{verdict}
 use Rattle.bits.specs.Bits.{bitAt, bitsValue, bytesOf}
-use Rattle.lent.specs.States.{agentsIn, stateFault, agentWords, asBytes, LawfulState}
+use Rattle.lent.specs.States.{agentsIn, stateFault, agentWords, numbered, LawfulState}
 use Rattle.lent.specs.Lengths.{stateBytes, mapBytes, scratchBytes, noScratch}
 use Rattle.lent.proofs.Faults.{fault-running}
 use Rattle.lent.proofs.Round.{lawful-bytes}
+use Rattle.lent.proofs.Numbered.{numbered-fault}
 use Rattle.maps.specs.Maps.{tokensIn}
 use Rattle.instant.specs.declared.Reply.the-variants.{State, Input}
 use Rattle.instant.specs.InstantCall.{Lent, lent, lengthFault, tokenFault, kept, exit}
@@ -59,22 +60,22 @@ module _ (score input : List ℕ) (l : Lent) (accepted : numberOf (verdict score
   bad-input e t = rw (accepted, right, e, t)
 
 -- agent 5 is awake, of five agents
-agent-5 : stateFault 5 (bytes (state-with 0x20)) ≡ true
+agent-5 : stateFault 5 (bytes (state-with 0x20 0)) ≡ true
 unfolding words field agentsIn
 agent-5 =
-    let s = bytes (state-with 0x20) in
+    let s = bytes (state-with 0x20 0) in
     sym (fault-running 5 s refl) ∙ some-any (λ i. leb 5 i) (keep-kept (λ i. bitAt (wordAt s (1 + i / 32)) (i % 32)) (lt-below 1024 {i = 5} (omega arith)) refl) refl
 
-agent-4-bytes : bytes (state-with 0x10) ≡ asBytes (running (4 ∷ []))
-unfolding asBytes agentWords bitsValue bytesOf
+agent-4-bytes : bytes (state-with 0x10 0) ≡ numbered (running (4 ∷ [])) 0
+unfolding numbered agentWords bitsValue bytesOf
 agent-4-bytes = refl
 
 start-lawful : LawfulState 5 (running (4 ∷ []))
 unfolding LawfulState
 start-lawful i m = let e = List·Memᴰ·eq-of-singleton m in omega arith
 
-agent-4 : stateFault 5 (bytes (state-with 0x10)) ≡ false
-agent-4 = rw agent-4-bytes (lawful-bytes 5 (omega arith) (running (4 ∷ [])) start-lawful)
+agent-4 : stateFault 5 (bytes (state-with 0x10 0)) ≡ false
+agent-4 = rw agent-4-bytes (numbered-fault (running (4 ∷ [])) 0 5 ∙ lawful-bytes 5 (omega arith) (running (4 ∷ [])) start-lawful)
 
 -- token 4 is in the map, of four tokens
 token-4 : any (λ t. leb 4 t) (tokensIn (input-with 0x10)) ≡ true
@@ -85,17 +86,17 @@ sample-accepted : numberOf (verdict (bytes sample)) ≡ 0
 unfolding fires firing closeWithin close metFrom circular words field isWord decodeAgent isRule decode wordVerdict firstFault circleFrom verdict
 sample-accepted = refl
 
-state-refused : Holds (turned-down sample (state-with 0x20) (input-with 0) State)
+state-refused : Holds (turned-down sample (state-with 0x20 0) (input-with 0) State)
 unfolding words field
 state-refused store output scratch h i j =
-    bad-state (bytes sample) (input-with 0) (lent (bytes (state-with 0x20)) store output scratch) sample-accepted
-    (lengths-right (bytes (state-with 0x20)) (input-with 0) store output scratch refl refl h i j) agent-5
+    bad-state (bytes sample) (input-with 0) (lent (bytes (state-with 0x20 0)) store output scratch) sample-accepted
+    (lengths-right (bytes (state-with 0x20 0)) (input-with 0) store output scratch refl refl h i j) agent-5
 
-input-refused : Holds (turned-down sample (state-with 0x10) (input-with 0x10) Input)
+input-refused : Holds (turned-down sample (state-with 0x10 0) (input-with 0x10) Input)
 unfolding words field
 input-refused store output scratch h i j =
-    bad-input (bytes sample) (input-with 0x10) (lent (bytes (state-with 0x10)) store output scratch) sample-accepted
-    (lengths-right (bytes (state-with 0x10)) (input-with 0x10) store output scratch refl refl h i j) agent-4 token-4
+    bad-input (bytes sample) (input-with 0x10) (lent (bytes (state-with 0x10 0)) store output scratch) sample-accepted
+    (lengths-right (bytes (state-with 0x10 0)) (input-with 0x10) store output scratch refl refl h i j) agent-4 token-4
 
 -- the list has its form
 listed-good : formOf false 4 (bytes listed) ≡ Good
@@ -103,20 +104,20 @@ unfolding words field isWord mayFollow firstAgainst formOf
 listed-good = refl
 
 -- a run of S from its start state, by what it does
-sample-runs : (n : ℕ) (r : Ran) → playOn (decode (bytes sample)) (running (4 ∷ [])) n (inputLists (bytes listed)) ≡ r →
+sample-runs : (n : ℕ) (r : Ran) → playOn (decode (bytes sample)) (running (4 ∷ [])) 0 n (inputLists (bytes listed)) ≡ r →
     (journal scratch : List ℕ) → length journal ≡ n → length scratch ≡ scratchBytes →
-    run.exit (bytes sample) (bytes listed) (run.lent (asBytes (running (4 ∷ []))) journal scratch)
+    run.exit (bytes sample) (bytes listed) (run.lent (numbered (running (4 ∷ [])) 0) journal scratch)
     ≡ record { lent = run.lent (r .state) (bytesOf (r .words) ++ drop (4 * length (r .words)) journal) noScratch; reply = run.ending (r .stop) (r .instants) }
-unfolding words field
+unfolding words field upTo instantsIn tokensOf inputLists
 sample-runs n r e journal scratch h i =
-    exit-plays (bytes sample) sample-accepted (bytes listed) journal scratch (running (4 ∷ [])) start-lawful i listed-good ∙ rw (h, e) refl
+    exit-plays (bytes sample) sample-accepted (bytes listed) journal scratch (running (4 ∷ [])) start-lawful i listed-good (omega arith) ∙ rw (h, e) refl
 
 -- what a run does that leaves agent 2 awake
 abbrev ran : List ℕ → ℕ → Stop → Ran
-ran written n stop = record { words = written; state = bytes (state-with 0x4); instants = n; stop = stop }
+ran written n stop = record { words = written; state = bytes (state-with 0x4 n); instants = n; stop = stop }
 
 pub marked : Marked
-unfolding fires firing closeWithin close metFrom circular reached instant output answer answers words field isWord decodeAgent isRule decode wordVerdict firstFault circleFrom verdict bitsValue bytesOf agentWords asBytes upTo instantsIn tokensOf inputLists instantWords playOn
+unfolding fires firing closeWithin close metFrom circular reached instant output answer answers words field isWord decodeAgent isRule decode wordVerdict firstFault circleFrom verdict bitsValue bytesOf agentWords numbered upTo instantsIn tokensOf inputLists instantWords playOn
 marked = (
   refl,
   (

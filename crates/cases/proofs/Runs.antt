@@ -1,11 +1,13 @@
 -- The run call from a state written as bytes, by the instants of the state itself.
---     playOn       a run from a state: an instant is not written where its words exceed the journal bytes left
+--     playOn       a run from a state and its number, below the last: an instant is not written where its words exceed the journal bytes left
 --     run-plays    of an accepted score, from a lawful state, on rising inputs, a run over bytes is that one
 --     exit-plays   so is the run call, on a list of good form
-use mathlib.Core.Path.{_≡_, refl, sym, subst}
+use mathlib.Core.Path.{_≡_, refl, sym, subst, _∙_}
 use mathlib.Core.Bool.{false, cond}
 use mathlib.Core.List.{List, [], _∷_, List·Memᴰ·head, List·Memᴰ·tail}
-use Prim.Native.Nat.{ℕ, _*_, _-_}
+use Prim.Native.Nat.{ℕ, suc, _+_, _*_, _-_, _≤_}
+use native.Mathlib.Omega.{arith}
+use borrow.Author.Tests.{ne-eqb}
 use lib.Dec.{leb}
 use lib.ListN.{length}
 use Rattle.laws.proofs.Sets.{Within}
@@ -18,24 +20,26 @@ use Rattle.verdicts.specs.Verdicts.{numberOf}
 use Rattle.scorefile.specs.Check.{verdict}
 use Rattle.scorefile.proofs.Stages.{playable}
 use Rattle.lent.specs.Lengths.{scratchBytes}
-use Rattle.lent.specs.States.{asBytes, LawfulState}
-use Rattle.lent.proofs.Round.{asBytes-length, lawful-bytes}
+use Rattle.lent.specs.States.{numbered, lastNumber, LawfulState}
+use Rattle.lent.proofs.Round.{lawful-bytes}
+use Rattle.lent.proofs.Numbered.{numbered-length, numbered-same, numbered-fault, number-round}
 use Rattle.form.specs.declared.Form.the-variants.{Good}
 use Rattle.form.specs.Form.{formOf}
 use Rattle.parts.specs.Instants.{inputLists}
 use Rattle.journal.specs.History.{entry, Rising}
 use Rattle.journal.proofs.Forms.{good-inputs}
-use Rattle.history.proofs.Stands.{written-stands, instant-entry, after-bytes, next-lawful, instant-lawful}
+use Rattle.history.specs.AnswerIn.{answerIn}
+use Rattle.history.proofs.Stands.{written-stands, instant-entry, after-state, next-lawful, instant-lawful}
 use Rattle.runlist.specs.declared.Stop.the-variants.{Not, Room}
 use Rattle.runlist.specs.Run.{stopAt, Ran, stopped, unlessStopped, runFrom}
 use Rattle.run.specs.RunCall.{lent, ended, exit}
 
-unfoldable pub playOn : Score → State → ℕ → List (List ℕ) → Ran
-playOn sc st room [] = stopped (asBytes st) Not
-playOn sc st room (inputs ∷ more) =
-    unlessStopped (cond (leb (4 * length (entry sc inputs (answer sc st inputs))) room) Not Room) (asBytes st)
+unfoldable pub playOn : Score → State → ℕ → ℕ → List (List ℕ) → Ran
+playOn sc st n room [] = stopped (numbered st n) Not
+playOn sc st n room (inputs ∷ more) =
+    unlessStopped (cond (leb (4 * length (entry sc inputs (answer sc st inputs))) room) Not Room) (numbered st n)
     (entry sc inputs (answer sc st inputs))
-    (playOn sc (after (answer sc st inputs)) (room - 4 * length (entry sc inputs (answer sc st inputs))) more)
+    (playOn sc (after (answer sc st inputs)) (suc n) (room - 4 * length (entry sc inputs (answer sc st inputs))) more)
 
 module _ (score : List ℕ) (accepted : numberOf (verdict score) ≡ 0) where
   law : Lawful (decode score)
@@ -44,27 +48,34 @@ module _ (score : List ℕ) (accepted : numberOf (verdict score) ≡ 0) where
   counted : length (decode score .agents) ≡ sizes score .agents
   counted = playable-agents score (playable score accepted)
 
-  pub run-plays : (lists : List (List ℕ)) → Within (Rising (decode score .tokens)) lists → (st : State) → LawfulState (length (decode score .agents)) st → (room : ℕ) →
-      runFrom score (asBytes st) room lists ≡ playOn (decode score) st room lists
+  pub run-plays : (lists : List (List ℕ)) → Within (Rising (decode score .tokens)) lists → (st : State) → LawfulState (length (decode score .agents)) st → (n room : ℕ) → n + length lists ≤ lastNumber →
+      runFrom score (numbered st n) room lists ≡ playOn (decode score) st n room lists
   unfolding runFrom stopAt playOn
-  run-plays [] rising st lawful room = refl
-  run-plays (inputs ∷ more) rising st lawful room =
+  run-plays [] rising st lawful n room few = refl
+  run-plays (inputs ∷ more) rising st lawful n room few =
       let h = rising inputs (List·Memᴰ·head refl) in
       let b = answer (decode score) st inputs in
-      let s = written-stands score law counted st lawful in
-      let rest = run-plays more (λ l m. rising l (List·Memᴰ·tail m)) (after b) (next-lawful score law counted s inputs h) (room - 4 * length (entry (decode score) inputs b)) in
-      rw (instant-lawful score law counted s inputs h, instant-entry score law counted s inputs, after-bytes score law counted s inputs, rest)
+      let s = written-stands score law counted st n lawful in
+      let rest = run-plays more (λ l m. rising l (List·Memᴰ·tail m)) (after b) (next-lawful score law counted s inputs h) (suc n) (room - 4 * length (entry (decode score) inputs b)) (omega arith) in
+      rw (
+        instant-lawful score law counted s inputs h,
+        number-round st n (omega arith),
+        ne-eqb n lastNumber (λ e. omega arith),
+        instant-entry score law counted s inputs,
+        numbered-same (after (answerIn score (numbered st n) inputs)) (after b) (suc n) (after-state score law counted s inputs),
+        rest,
+      )
 
-  pub exit-plays : (inputs journal scratch : List ℕ) (st : State) → LawfulState (sizes score .agents) st → length scratch ≡ scratchBytes → formOf false (sizes score .tokens) inputs ≡ Good →
-      exit score inputs (lent (asBytes st) journal scratch) ≡ ended (lent (asBytes st) journal scratch) (playOn (decode score) st (length journal) (inputLists inputs))
+  pub exit-plays : (inputs journal scratch : List ℕ) (st : State) → LawfulState (sizes score .agents) st → length scratch ≡ scratchBytes → formOf false (sizes score .tokens) inputs ≡ Good → length (inputLists inputs) ≤ lastNumber →
+      exit score inputs (lent (numbered st 0) journal scratch) ≡ ended (lent (numbered st 0) journal scratch) (playOn (decode score) st 0 (length journal) (inputLists inputs))
   unfolding exit
-  exit-plays inputs journal scratch st lawful long good =
+  exit-plays inputs journal scratch st lawful long good few =
       let rising : Within (Rising (decode score .tokens)) (inputLists inputs) = λ l m. subst (λ t. Rising t l) (sym (decode-tokens score)) (good-inputs false (sizes score .tokens) inputs good l m) in
       rw (
         accepted,
-        asBytes-length st,
+        numbered-length st 0,
         long,
-        lawful-bytes (sizes score .agents) (sizes-few score .1) st lawful,
+        numbered-fault st 0 (sizes score .agents) ∙ lawful-bytes (sizes score .agents) (sizes-few score .1) st lawful,
         good,
-        run-plays (inputLists inputs) rising st (subst (λ n. LawfulState n st) (sym counted) lawful) (length journal),
+        run-plays (inputLists inputs) rising st (subst (λ n. LawfulState n st) (sym counted) lawful) 0 (length journal) (omega arith),
       )

@@ -15,12 +15,12 @@ use lib.ListN.{length, take, drop, set, replicate}
 use Rattle.laws.specs.Sets.{below, keep, has}
 use Rattle.tcc.specs.Score.{Score}
 use Rattle.tcc.specs.Weight.{weight}
-use Rattle.tcc.specs.Instant.{Answer, count, running, startState, answers}
+use Rattle.tcc.specs.Instant.{Answer, count, running, answers}
 use Rattle.format.specs.Decode.{decode}
 use Rattle.verdicts.specs.declared.Verdict.{Verdict}
 use Rattle.verdicts.specs.declared.Verdict.the-variants.{Accepted, Length, Token, Reference, Circle}
 use Rattle.scorefile.specs.Check.{verdict}
-use Rattle.lent.specs.States.{asBytes}
+use Rattle.lent.specs.States.{startBytes}
 use Rattle.lent.specs.Lengths.{mapBytes, scratchBytes, noScratch}
 use Rattle.instant.specs.declared.Reply.{Reply}
 use Rattle.instant.specs.declared.Reply.the-variants.{State, Input}
@@ -68,7 +68,7 @@ Holds (turned-down ws state input r) =
     _≡_ {A = Exit} (exit (bytes ws) input (lent (bytes state) store output scratch)) (record { lent = lent (bytes state) store output scratch; reply = r })
 Holds (runs ws inputs n written state r) =
     (journal scratch : List ℕ) → length journal ≡ n → length scratch ≡ scratchBytes →
-    _≡_ {A = run.Exit} (run.exit (bytes ws) (bytes inputs) (run.lent (asBytes (startState (decode (bytes ws)))) journal scratch))
+    _≡_ {A = run.Exit} (run.exit (bytes ws) (bytes inputs) (run.lent (startBytes (decode (bytes ws))) journal scratch))
     (record { lent = run.lent (bytes state) (bytes written ++ drop (4 * length written) journal) noScratch; reply = r })
 
 abbrev pub sample : List ℕ
@@ -77,9 +77,9 @@ sample = 0x10000403 ∷ 0xB0000302 ∷ 0x50000002 ∷ 0x70000400 ∷ 0xA0000000 
 abbrev pub aborting : List ℕ
 aborting = set sample 2 0x40000001
 
--- running, with agent i of the first 32 awake where bit i is set
-abbrev pub state-with : ℕ → List ℕ
-state-with agents = 0xF0000000 ∷ agents ∷ replicate 31 0
+-- running, with agent i of the first 32 awake where bit i is set, and a number of instants run
+abbrev pub state-with : ℕ → ℕ → List ℕ
+state-with agents number = 0xF0000000 ∷ agents ∷ replicate 31 0 ++ number ∷ []
 
 -- an input map whose tokens are the bits of its first byte
 abbrev pub input-with : ℕ → List ℕ
@@ -112,14 +112,14 @@ marked =
     ∷ checked (set sample 7 0x30000004) Accepted
     ∷ checked (set sample 8 0x20040200) (Token 8)
     ∷ checked (set sample 5 0x60000801) (Circle 0)
-    ∷ turned-down sample (state-with 0x20) (input-with 0) State
-    ∷ turned-down sample (state-with 0x10) (input-with 0x10) Input
+    ∷ turned-down sample (state-with 0x20 0) (input-with 0) State
+    ∷ turned-down sample (state-with 0x10 0) (input-with 0x10) Input
     ∷ instants aborting (4 ∷ []) ((1 ∷ []) ∷ [] ∷ [])
     (record { status = 2; count = 0; awake = [] } ∷ record { status = 2; count = 0; awake = [] } ∷ [])
     ∷ instants aborting (4 ∷ []) ((0 ∷ []) ∷ []) (record { status = 2; count = 0; awake = [] } ∷ [])
-    ∷ runs sample listed 16 (take 4 printed) (state-with 0x4) (run-reply.Full 2)
-    ∷ runs sample listed 12 (take 3 printed) (state-with 0x4) (run-reply.Full 1)
-    ∷ runs sample listed 36 printed (state-with 0x4) (run-reply.Accepted 3)
+    ∷ runs sample listed 16 (take 4 printed) (state-with 0x4 2) (run-reply.Full 2)
+    ∷ runs sample listed 12 (take 3 printed) (state-with 0x4 1) (run-reply.Full 1)
+    ∷ runs sample listed 36 printed (state-with 0x4 3) (run-reply.Accepted 3)
     ∷ instants unless-pair (1 ∷ []) ([] ∷ []) (record { status = 0; count = 0; awake = 0 ∷ [] } ∷ [])
     ∷ instants unless-pair (1 ∷ []) ((1 ∷ []) ∷ []) (record { status = 0; count = 1; awake = [] } ∷ [])
     ∷ weights parallel-pair (1 ∷ 3 ∷ [])

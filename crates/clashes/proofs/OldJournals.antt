@@ -7,8 +7,9 @@
 use mathlib.Core.Path.{_≡_, refl, sym, ap, ap₂, subst, _∙_}
 use mathlib.Core.Bool.{Bool, true, false}
 use mathlib.Core.List.{List, [], _∷_, _++_, flatten, List·Memᴰ, List·Memᴰ·head, List·Memᴰ·tail, List·Memᴰ·not-nil}
-use Prim.Native.Nat.{ℕ, suc, _+_}
+use Prim.Native.Nat.{ℕ, suc, _+_, _≤_}
 use native.Mathlib.Omega.{arith}
+use borrow.Author.Tests.{ne-eqb}
 use lib.ListN.{length}
 use Rattle.laws.proofs.Booleans.{true-is-false}
 use Rattle.laws.proofs.Sets.{Within, on-cons}
@@ -25,7 +26,8 @@ use Rattle.verdicts.specs.Verdicts as verdicts
 use Rattle.scorefile.specs.Check as check
 use Rattle.bits.specs.Bits.{bytesOf}
 use Rattle.lent.specs.Lengths.{scratchBytes, noScratch}
-use Rattle.lent.specs.States.{asBytes}
+use Rattle.lent.specs.States.{instantNumber, startBytes, nextBytes, lastNumber}
+use Rattle.lent.proofs.Numbered.{number-round, next-number}
 use Rattle.form.specs.declared.Form.the-variants.{Good}
 use Rattle.form.specs.Form.{formOf}
 use Rattle.parts.specs.Instants.{instantsIn, inputsIn, tokensOf}
@@ -113,29 +115,30 @@ module _ (sc : Score) (law : Lawful sc) where
   entries-formed st (inputs ∷ more) h = on-cons (entry-formed st inputs (h inputs (List·Memᴰ·head refl))) (entries-formed (after (answer sc st inputs)) more (λ x m. h x (List·Memᴰ·tail m)))
 
 module _ (score : List ℕ) (law : Lawful (decode score)) (counted : length (decode score .agents) ≡ sizes score .agents) where
-  stopped : (lists : List (List ℕ)) → Within (Rising (decode score .tokens)) lists → (state : List ℕ) (st : State) → Stands score law counted state st → (read : ℕ) →
+  stopped : (lists : List (List ℕ)) → Within (Rising (decode score .tokens)) lists → (state : List ℕ) (st : State) → Stands score law counted state st → (read : ℕ) → instantNumber state + length lists ≤ lastNumber →
       (earlier later : List Answer) (a : Answer) → answers (decode score) st lists ≡ earlier ++ a ∷ later → Unclashed earlier → a .status ≡ 1 →
       checkFrom score state read (entriesBefore (decode score) st lists) ≡ Differs (read + length earlier)
   unfolding checkFrom entriesBefore answers
-  stopped [] rising state st stands read [] later a e n one = absurd (let z : _≡_ {A = ℕ} 0 1 = cc in omega arith)
-  stopped [] rising state st stands read (b ∷ earlier) later a e n one = absurd (let z : _≡_ {A = ℕ} 0 1 = cc in omega arith)
-  stopped (inputs ∷ more) rising state st stands read [] later a e n one =
+  stopped [] rising state st stands read few [] later a e n one = absurd (let z : _≡_ {A = ℕ} 0 1 = cc in omega arith)
+  stopped [] rising state st stands read few (b ∷ earlier) later a e n one = absurd (let z : _≡_ {A = ℕ} 0 1 = cc in omega arith)
+  stopped (inputs ∷ more) rising state st stands read few [] later a e n one =
       let h = rising inputs (List·Memᴰ·head refl) in
       let here : answer (decode score) st inputs ≡ a = cc in
-      rw (entry-inputs (decode score) law st inputs h, instant-lawful score law counted stands inputs h, instant-entry score law counted stands inputs, same-other (decode score) law st inputs h (ap (λ x. x .status) here ∙ one))
+      rw (entry-inputs (decode score) law st inputs h, instant-lawful score law counted stands inputs h, ne-eqb (instantNumber state) lastNumber (λ z. omega arith), instant-entry score law counted stands inputs, same-other (decode score) law st inputs h (ap (λ x. x .status) here ∙ one))
       (ap Differs (omega arith))
-  stopped (inputs ∷ more) rising state st stands read (b ∷ earlier) later a e n one =
+  stopped (inputs ∷ more) rising state st stands read few (b ∷ earlier) later a e n one =
       let h = rising inputs (List·Memᴰ·head refl) in
       let now = answer (decode score) st inputs in
       let here : now ≡ b = cc in
       let as-run : same (entryBefore (decode score) inputs now) (entry (decode score) inputs now) ≡ true =
       ap (λ ws. same ws (entry (decode score) inputs now)) (entry-kept (decode score) inputs now (λ x. n b (List·Memᴰ·head refl) (sym (ap (λ y. y .status) here) ∙ x))) ∙ same-itself (entry (decode score) inputs now) in
-      let rest = stopped more (λ l m. rising l (List·Memᴰ·tail m)) (asBytes (after (answerIn score state inputs))) (after now) (instant-stands score law counted stands inputs h) (suc read) earlier later a (cc) (λ x m. n x (List·Memᴰ·tail m)) one in
-      rw (entry-inputs (decode score) law st inputs h, instant-lawful score law counted stands inputs h, instant-entry score law counted stands inputs, as-run)
+      let rest = stopped more (λ l m. rising l (List·Memᴰ·tail m)) (nextBytes state (answerIn score state inputs)) (after now) (instant-stands score law counted stands inputs h) (suc read)
+      (omega (arith, next-number state (answerIn score state inputs) (omega arith))) earlier later a (cc) (λ x m. n x (List·Memᴰ·tail m)) one in
+      rw (entry-inputs (decode score) law st inputs h, instant-lawful score law counted stands inputs h, ne-eqb (instantNumber state) lastNumber (λ z. omega arith), instant-entry score law counted stands inputs, as-run)
       (rest ∙ ap Differs (omega arith))
 
 module _ (score before : List ℕ) (lists : List (List ℕ)) (accepted : verdicts.numberOf (check.verdict score) ≡ 0) (long : length before ≡ scratchBytes)
-    (rising : (l : List ℕ) → List·Memᴰ l lists → Rising (decode score .tokens) l) where
+    (rising : (l : List ℕ) → List·Memᴰ l lists → Rising (decode score .tokens) l) (few : length lists ≤ lastNumber) where
   abbrev sc : Score
   sc = decode score
 
@@ -161,20 +164,20 @@ module _ (score before : List ℕ) (lists : List (List ℕ)) (accepted : verdict
   turned-down earlier later a e n one =
       check-reply score accepted journal before long
       ∙ ap (λ f. byForm f (left before) (left noScratch (checked score journal)) .reply) good
-      ∙ ap (checkFrom score (asBytes st) 0) instants
-      ∙ stopped score law (agents-counted score accepted) lists rising (asBytes st) st (start-stands score accepted) 0 earlier later a e n one
+      ∙ ap (checkFrom score (startBytes sc) 0) instants
+      ∙ stopped score law (agents-counted score accepted) lists rising (startBytes sc) st (start-stands score accepted) 0 (omega (arith, number-round st 0 (omega arith))) earlier later a e n one
       ∙ ap Differs (omega arith)
 
 pub old-journals : OldJournals
-old-journals score before after answer lists accepted long rising c =
+old-journals score before after answer lists accepted long rising few c =
     let start = startState (decode score) in
     let old = bytesOf (historyBefore (decode score) start lists) in
     let found = read score old before after answer c in (
       λ n.
           let is = kept (decode score) start lists n in
-          let x = exactly score old before after answer (length lists) accepted long c .1 (record { inputs = lists; rising = rising; instants = refl; is = ap bytesOf is }) in
+          let x = exactly score old before after answer (length lists) accepted long c .1 (record { inputs = lists; rising = rising; instants = refl; is = ap bytesOf is }) few in
           (is, x .0, x .1),
       λ earlier later a e n one.
-          let x = turned-down score before lists accepted long rising earlier later a e n one in
+          let x = turned-down score before lists accepted long rising few earlier later a e n one in
           (found .number ∙ ap (λ r. numberOf (ofRunReply r)) x, found .value ∙ ap (λ r. valueOf (ofRunReply r)) x),
     )

@@ -4,10 +4,10 @@
 --     Unclashed        no instant of a list has status 1
 --     Kept             where none has, the journal is byte for byte what it was: 0, with the instants read
 --     TurnedDown       where one has, it has good form and is turned down at the first such instant: 14
---     OldJournals      both, from the start state of an accepted score
+--     OldJournals      both, from the start state of an accepted score, up to the last number
 use mathlib.Core.Path.{_≡_}
 use mathlib.Core.List.{List, [], _∷_, _++_, List·Memᴰ}
-use Prim.Native.Nat.{ℕ}
+use Prim.Native.Nat.{ℕ, _≤_}
 use lib.ListN.{length}
 use Rattle.laws.specs.Sets.{keep, has}
 use Rattle.tcc.specs.Score.{Score}
@@ -17,6 +17,7 @@ use Rattle.verdicts.specs.Verdicts.{numberOf}
 use Rattle.scorefile.specs.Check.{verdict}
 use Rattle.bits.specs.Bits.{bytesOf}
 use Rattle.lent.specs.Lengths.{scratchBytes}
+use Rattle.lent.specs.States.{lastNumber}
 use Rattle.journal.specs.History.{instantWords, history, Rising}
 use Rattle.answer.specs.Answer.{numberIn, valueIn}
 use Rattle.score.specs.ScoreJournalCheck.{ScoreJournalCheck}
@@ -47,6 +48,6 @@ TurnedDown score inputs checked =
 abbrev pub OldJournals : Type 0
 OldJournals =
     (score before after : List ℕ) (checked : ℕ) (inputs : List (List ℕ)) → numberOf (verdict score) ≡ 0 → length before ≡ scratchBytes →
-    ((l : List ℕ) → List·Memᴰ l inputs → Rising (decode score .tokens) l) →
+    ((l : List ℕ) → List·Memᴰ l inputs → Rising (decode score .tokens) l) → length inputs ≤ lastNumber →
     ScoreJournalCheck score (bytesOf (historyBefore (decode score) (startState (decode score)) inputs)) before after checked →
     Kept score inputs checked × TurnedDown score inputs checked

@@ -12,10 +12,10 @@ use Rattle.format.specs.Decode.{sizes, decode}
 use Rattle.verdicts.specs.Verdicts.{numberOf}
 use Rattle.scorefile.specs.Check.{verdict}
 use Rattle.lent.specs.Lengths.{stateBytes, mapBytes, scratchBytes, noScratch}
-use Rattle.lent.specs.States.{stateFault, stateOf, asBytes}
+use Rattle.lent.specs.States.{stateFault, stateOf, asBytes, atLast}
 use Rattle.maps.specs.Maps.{tokensIn}
 use Rattle.instant.specs.declared.Reply.{Reply as InstantReply}
-use Rattle.instant.specs.declared.Reply.the-variants.{Score as Turned, Lengths, State, Input, Next}
+use Rattle.instant.specs.declared.Reply.the-variants.{Score as Turned, Lengths, State, Input, Last, Next}
 use Rattle.instant.specs.InstantCall.{Lent, Exit, lent, kept, cleared, answered, tokenFault, exit}
 use Rattle.form.specs.declared.Form.{Form}
 use Rattle.form.specs.declared.Form.the-variants.{Good, Bytes, Word}
@@ -42,31 +42,33 @@ record Seen : Type 0 where
 abbrev seen : Exit → Seen
 seen e = record { reply = e .reply; state = e .lent .state; store = e .lent .store; output = e .lent .output }
 
--- by the tests of 1 to 7, of 8, 9, 10 and 11
-abbrev exitBy : InstantReply → Exit → Bool → Bool → Bool → Bool → Bool → Lent → Exit
-exitBy turned end t u v w x l = cond t (kept l turned) (cond u (kept l Lengths) (cond v (kept l State) (cond w (kept l Input) (cond x (cleared l Next) end))))
+-- by the tests of 1 to 7, of 8, 9, 10, 18 and 11
+abbrev exitBy : InstantReply → Exit → Bool → Bool → Bool → Bool → Bool → Bool → Lent → Exit
+exitBy turned end t u v w y x l = cond t (kept l turned) (cond u (kept l Lengths) (cond v (kept l State) (cond w (kept l Input) (cond y (kept l Last) (cond x (cleared l Next) end)))))
 
 module _ (state store output s₁ s₂ : List ℕ) where
-  alike : (turned : InstantReply) (end : Exit) (t u v w x : Bool) → seen (exitBy turned end t u v w x (lent state store output s₁)) ≡ seen (exitBy turned end t u v w x (lent state store output s₂))
-  alike turned end true u v w x = refl
-  alike turned end false true v w x = refl
-  alike turned end false false true w x = refl
-  alike turned end false false false true x = refl
-  alike turned end false false false false true = refl
-  alike turned end false false false false false = refl
+  alike : (turned : InstantReply) (end : Exit) (t u v w y x : Bool) → seen (exitBy turned end t u v w y x (lent state store output s₁)) ≡ seen (exitBy turned end t u v w y x (lent state store output s₂))
+  alike turned end true u v w y x = refl
+  alike turned end false true v w y x = refl
+  alike turned end false false true w y x = refl
+  alike turned end false false false true y x = refl
+  alike turned end false false false false true x = refl
+  alike turned end false false false false false true = refl
+  alike turned end false false false false false false = refl
 
   same : (score input : List ℕ) → length s₁ ≡ length s₂ → seen (exit score input (lent state store output s₁)) ≡ seen (exit score input (lent state store output s₂))
   unfolding exit
   same score input e =
       let turned = Turned (verdict score) in
       let a = answer (decode score) (stateOf state) (tokensIn input) in
-      let end = answered (decode score) a in
+      let end = answered (decode score) state a in
       let t = not (eqb (numberOf (verdict score)) 0) in
       let u : ℕ → Bool = λ n. not (eqb (length state) stateBytes) || not (eqb (length input) mapBytes) || not (eqb (length store) mapBytes) || not (eqb (length output) mapBytes) || not (eqb n scratchBytes) in
       let v = stateFault (sizes score .agents) state in
       let w = tokenFault score input in
+      let y = atLast state in
       let x = stateFault (sizes score .agents) (asBytes (after a)) in
-      ap (λ n. seen (exitBy turned end t (u n) v w x (lent state store output s₁))) e ∙ alike turned end t (u (length s₂)) v w x
+      ap (λ n. seen (exitBy turned end t (u n) v w y x (lent state store output s₁))) e ∙ alike turned end t (u (length s₂)) v w y x
 
 instants : Instants
 instants score input state store output s₁ s₂ after₁ after₂ a b e c d =

@@ -8,7 +8,7 @@
 use mathlib.Core.Path.{_≡_, refl, sym, ap, subst, subst⁻¹, _∙_}
 use mathlib.Core.Bool.{Bool, true, false, cond}
 use mathlib.Core.List.{List, [], List·Memᴰ}
-use Prim.Native.Nat.{ℕ, _<_}
+use Prim.Native.Nat.{ℕ, suc, _<_}
 use native.Mathlib.Omega.{arith}
 use borrow.Author.Tests.{lt-ltb, ne-eqb}
 use lib.Dec.{ltb}
@@ -23,8 +23,8 @@ use Rattle.tcc.specs.Instant as state
 use Rattle.tcc.specs.Confluence.{QuietAs, EndsAs}
 use Rattle.tcc.proofs.SameAnswer.{SameAnswer}
 use Rattle.format.specs.Decode.{decode}
-use Rattle.lent.specs.States.{stateOf, asBytes, SameState}
-use Rattle.lent.proofs.Round.{asBytes-same}
+use Rattle.lent.specs.States.{stateOf, instantNumber, numbered, nextBytes, SameState}
+use Rattle.lent.proofs.Numbered.{numbered-same}
 use Rattle.lent.proofs.SameState.{state-running, state-aborted}
 use Rattle.maps.specs.Maps.{tokensIn, mapOf}
 use Rattle.maps.proofs.Round.{mapOf-same, map-round}
@@ -67,12 +67,12 @@ module _ {score : List ℕ} {p : Answered} (h : IsInstant score p) where
   abbrev now : Answer
   now = given score (p .before) (p .inputs)
 
-  aborted-holds : now ≡ abortedAnswer → Holds p 2 (mapOf []) (mapOf []) (asBytes state.aborted)
+  aborted-holds : now ≡ abortedAnswer → Holds p 2 (mapOf []) (mapOf []) (numbered state.aborted (suc (instantNumber (p .before))))
   aborted-holds e = record {
     status-is = ap (λ q. q .status) (h .is) ∙ ap (λ a. a .status) e;
     store-is = ap (λ q. q .store) (h .is) ∙ ap (λ a. mapOf (a .store)) e;
     output-is = ap (λ q. q .output) (h .is) ∙ ap (λ a. mapOf (output (decode score) (a .status) (a .store))) e ∙ ap mapOf (output-none (decode score) 2);
-    after-is = ap (λ q. q .after) (h .is) ∙ ap (λ a. asBytes (after a)) e;
+    after-is = ap (λ q. q .after) (h .is) ∙ ap (nextBytes (p .before)) e;
   }
 
   pub leaves : (e : End) → EndsAs (decode score) e now → Leaves (decode score) e p
@@ -82,7 +82,7 @@ module _ {score : List ℕ} {p : Answered} (h : IsInstant score p) where
     status-is = ap (λ r. r .status) (h .is) ∙ quiet-status q;
     store-is = ap (λ r. r .store) (h .is) ∙ mapOf-same (same-sym (q .store));
     output-is = ap (λ r. r .output) (h .is) ∙ ap (λ n. mapOf (output (decode score) n (now .store))) (quiet-status q) ∙ ap mapOf (output-same (decode score) (cond (has 0 s) 1 0) (same-sym (q .store)));
-    after-is = ap (λ r. r .after) (h .is) ∙ ap asBytes (quiet-after q) ∙ asBytes-same (running (now .awake)) (running (awakeNext (decode score) l)) (same-sym (q .awake));
+    after-is = ap (λ r. r .after) (h .is) ∙ ap (λ st. numbered st (suc (instantNumber (p .before)))) (quiet-after q) ∙ numbered-same (running (now .awake)) (running (awakeNext (decode score) l)) (suc (instantNumber (p .before))) (same-sym (q .awake));
   }
 
   pub store-back : Same (tokensIn (p .store)) (now .store)
@@ -107,6 +107,6 @@ module _ {score : List ℕ} {p : Answered} (h : IsInstant score p) where
         awake = same-trans (q .awake) (same-sym (runs .1));
       }
 
-  pub from-aborted : stateOf (p .before) ≡ state.aborted → Holds p 2 (mapOf []) (mapOf []) (asBytes state.aborted)
+  pub from-aborted : stateOf (p .before) ≡ state.aborted → Holds p 2 (mapOf []) (mapOf []) (numbered state.aborted (suc (instantNumber (p .before))))
   unfolding answer
   from-aborted e = aborted-holds (ap (λ st. answer (decode score) st (p .inputs)) e)

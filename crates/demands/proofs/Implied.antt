@@ -23,8 +23,8 @@ use Rattle.tcc.specs.Chain.{Chain, none, then}
 use Rattle.tcc.specs.declared.Agent.the-variants.{Next}
 use Rattle.tcc.proofs.Order.{Done, order-ran}
 use Rattle.format.specs.Decode.{decode}
-use Rattle.lent.specs.States.{agentsIn, asBytes, LawfulState}
-use Rattle.lent.proofs.Round.{state-round}
+use Rattle.lent.specs.States.{agentsIn, numbered, LawfulState}
+use Rattle.lent.proofs.Numbered.{numbered-round}
 use Rattle.lent.proofs.SameState.{state-running}
 use Rattle.maps.specs.Maps.{tokensIn}
 use Rattle.instant.specs.InstantCall.{Lent}
@@ -96,11 +96,11 @@ module _ (d : Determinacy) (score : List ℕ) (w : ℕ → ℕ) (is : IsWeight (
         like .awake b .0 (next-wakes (decode score) i b e l (next-stays (decode score) i b e (agentsIn first) (p .inputs) m o))
 
   -- so an order may start with copies of any set of agents
-  pub any-agents : (agents last : List ℕ) (made : List Call) → ((i : ℕ) → List·Memᴰ i agents → i < 1024) → InTurn score (asBytes (running agents)) made last →
+  pub any-agents : (n : ℕ) (agents last : List ℕ) (made : List Call) → ((i : ℕ) → List·Memᴰ i agents → i < 1024) → InTurn score (numbered (running agents) n) made last →
       (p : Answered) (more : List Answered) → Answers score made (p ∷ more) → (copies : List ℕ) → Same copies agents → AtInstant (decode score) w copies p
-  any-agents agents last made within turn p more answers copies same =
-      let first = asBytes (running agents) in
-      let back = state-running first agents (state-round (running agents) (all-below agents within)) in
+  any-agents n agents last made within turn p more answers copies same =
+      let first = numbered (running agents) n in
+      let back = state-running first agents (numbered-round (running agents) n (all-below agents within)) in
       d score w first last made (p ∷ more) (back .0) is turn answers .orders [] more p refl copies copies (same-trans same (same-sym (back .1))) none
 
   -- "each later one with the multiset that a finished order of the instant before left awake, whatever refused calls lie between"

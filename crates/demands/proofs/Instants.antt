@@ -1,30 +1,32 @@
 -- Answered instants, held against the definition of an instant.
 --     madeBy               the instant that the definition gives from a state on input tokens
---     IsInstant            the score is accepted, the state has no fault, the inputs are the score's tokens, and the
---                          definition gives the instant
+--     IsInstant            the score is accepted, the state has its length, no fault and is not at the last number, the
+--                          inputs are the score's tokens, and the definition gives the instant
 --     accepted-instant     an accepted instant call's instant is one
 --     refused-state        any other instant call leaves the state as it was
 --     instant-eleven       no instant call answers 11
 --     settled-instant      where all that is lent is right, a call that meets the contract is accepted
 --     instant-inside       the agents and tokens of an instant are the score's
---     after-faultless      the state after an instant has no fault
---     after-round          it stands for the state that the definition gives
+--     after-round          the state after an instant stands for the one that the definition gives
 --     sent-back            the output map has the tokens of the definition's output
 --     instant-shown        a journal shows its status, inputs and output
 use mathlib.Core.Path.{_≡_, refl, sym, ap, ap₂, subst⁻¹, _∙_}
 use mathlib.Core.Bool.{false}
 use mathlib.Core.List.{List}
-use Prim.Native.Nat.{ℕ}
+use Prim.Native.Nat.{ℕ, suc}
 use native.Mathlib.Omega.{arith}
+use lib.ListN.{length}
 use Rattle.tcc.specs.Instant.{output, after}
 use Rattle.format.specs.Decode.{sizes, decode}
 use Rattle.verdicts.specs.Verdicts as verdicts
 use Rattle.scorefile.specs.Check as check
-use Rattle.lent.specs.States.{stateFault, stateOf, asBytes, SameState}
-use Rattle.lent.proofs.Round.{state-round}
+use Rattle.lent.specs.Lengths.{stateBytes}
+use Rattle.lent.specs.States.{stateFault, stateOf, instantNumber, nextBytes, atLast, SameState}
+use Rattle.lent.proofs.Numbered.{numbered-round}
 use Rattle.maps.specs.Maps.{tokensIn, mapOf}
 use Rattle.standing.proofs.Inside.{Inside, after-lawful}
 use Rattle.instant.specs.InstantCall.{Lent, Exit, exit}
+use Rattle.instant.proofs.Exits.{right-lengths}
 use Rattle.journal.specs.History.{instantWords, entry}
 use Rattle.journal.proofs.Rising.{output-rising, rising-map}
 use Rattle.answer.specs.Answer.{numberOf, statusOf, numberIn, statusIn}
@@ -32,7 +34,7 @@ use Rattle.answer.specs.Replies.{ofReply}
 use Rattle.score.specs.ScoreInstant.{ScoreInstant}
 use Rattle.score.proofs.ScoreInstant.{read}
 use Rattle.demands.specs.Calls.{Answered, answeredBy}
-use Rattle.demands.proofs.Accepted.{given, Known, input-known, lawful, given-inside, next-faultless}
+use Rattle.demands.proofs.Accepted.{given, Known, input-known, lawful, given-inside}
 use Rattle.demands.proofs.InstantExit.{Fit, Outcome, refuses, answers, outcome, fit-answered}
 
 abbrev pub madeBy : List ℕ → List ℕ → List ℕ → Answered
@@ -43,13 +45,15 @@ madeBy score s inputs =
       status = given score s inputs .status;
       store = mapOf (given score s inputs .store);
       output = mapOf (output (decode score) (given score s inputs .status) (given score s inputs .store));
-      after = asBytes (after (given score s inputs));
+      after = nextBytes s (given score s inputs);
     }
 
 pub record IsInstant (score : List ℕ) (p : Answered) : Type 0 where
   pub accepted : verdicts.numberOf (check.verdict score) ≡ 0
+  pub long : length (p .before) ≡ stateBytes
   pub faultless : stateFault (sizes score .agents) (p .before) ≡ false
   pub known : Known score (p .inputs)
+  pub below : atLast (p .before) ≡ false
   pub is : p ≡ madeBy score (p .before) (p .inputs)
 
 module _ {score input : List ℕ} {l m : Lent} {a : ℕ} (c : ScoreInstant score input l m a) where
@@ -66,8 +70,10 @@ module _ {score input : List ℕ} {l m : Lent} {a : ℕ} (c : ScoreInstant score
           let lent : m ≡ e .lent = c .written ∙ ap (λ x. x .lent) q in
           record {
             accepted = f .accepted;
+            long = right-lengths input l (f .long) .state-long;
             faultless = f .faultless;
             known = input-known score input (f .known);
+            below = f .below;
             is = λ i. record { before = l .state; inputs = tokensIn input; status = status i; store = lent i .store; output = lent i .output; after = lent i .state };
           }
 
@@ -92,13 +98,10 @@ module _ {score : List ℕ} {p : Answered} (h : IsInstant score p) where
   pub instant-inside : Inside (decode score) (given score (p .before) (p .inputs))
   instant-inside = given-inside score (h .accepted) (p .before) (h .faultless) (p .inputs) (h .known)
 
-  pub after-faultless : stateFault (sizes score .agents) (p .after) ≡ false
-  after-faultless = ap (λ q. stateFault (sizes score .agents) (q .after)) (h .is) ∙ next-faultless score (h .accepted) (p .before) (h .faultless) (p .inputs) (h .known)
-
   pub after-round : SameState (stateOf (p .after)) (after (given score (p .before) (p .inputs)))
   after-round =
       let a = given score (p .before) (p .inputs) in
-      subst⁻¹ (λ (q : Answered). SameState (stateOf (q .after)) (after a)) (h .is) (state-round (after a) (after-lawful (decode score) a 1024 (lawful score (h .accepted) .most-agents) instant-inside))
+      subst⁻¹ (λ (q : Answered). SameState (stateOf (q .after)) (after a)) (h .is) (numbered-round (after a) (suc (instantNumber (p .before))) (after-lawful (decode score) a 1024 (lawful score (h .accepted) .most-agents) instant-inside))
 
   pub sent-back : tokensIn (p .output) ≡ output (decode score) (given score (p .before) (p .inputs) .status) (given score (p .before) (p .inputs) .store)
   sent-back =

@@ -1,12 +1,12 @@
 -- Journal checks of an accepted score, held against the history from the start state.
 --     start-stands         the start state's bytes stand for it
 --     check-reply          with a scratch of its length, the reply is by the journal's form, then instant by instant
---     history-accepted     a history's journal is accepted, with its instants
+--     history-accepted     a history's journal is accepted, with its instants, if they are not past the last number
 --     accepted-history     a journal that is accepted is a history's
 use mathlib.Core.Path.{_≡_, refl, sym, ap, ap₂, subst⁻¹, _∙_}
-use mathlib.Core.Bool.{Bool, true, false, cond}
+use mathlib.Core.Bool.{Bool, true, false, cond, not, _&&_}
 use mathlib.Core.List.{List, [], _∷_, map, flatten, List·Memᴰ·not-nil}
-use Prim.Native.Nat.{ℕ, suc}
+use Prim.Native.Nat.{ℕ, suc, _≤_}
 use native.Mathlib.Omega.{arith}
 use lib.ListN.{length, length-map}
 use Rattle.laws.proofs.Sets.{Within, on-cons, on-map}
@@ -17,7 +17,8 @@ use Rattle.format.proofs.Decode.{decode-tokens}
 use Rattle.verdicts.specs.Verdicts as verdicts
 use Rattle.scorefile.specs.Check as check
 use Rattle.bits.specs.Bits.{bytesOf}
-use Rattle.lent.specs.States.{stateFault, asBytes, LawfulState}
+use Rattle.lent.specs.States.{stateFault, asBytes, instantNumber, startBytes, nextBytes, lastNumber, atLast, LawfulState}
+use Rattle.lent.proofs.Numbered.{number-round}
 use Rattle.lent.specs.Lengths.{scratchBytes, noScratch}
 use Rattle.form.specs.declared.Form.{Form}
 use Rattle.form.specs.declared.Form.the-variants.{Good, Bytes, Word}
@@ -46,8 +47,8 @@ unfolding checkFrom
 zero-accepted score state read [] = λ z. refl
 zero-accepted score state read (ws ∷ more) =
     let a = answerIn score state (inputsIn ws) in
-    go (stateFault (sizes score .agents) (asBytes (after a))) (same ws (entry (decode score) (inputsIn ws) a))
-    (checkFrom score (asBytes (after a)) (suc read) more) (zero-accepted score (asBytes (after a)) (suc read) more)
+    go (stateFault (sizes score .agents) (asBytes (after a))) (not (atLast state) && same ws (entry (decode score) (inputsIn ws) a))
+    (checkFrom score (nextBytes state a) (suc read) more) (zero-accepted score (nextBytes state a) (suc read) more)
   where
     go : (faulty as-run : Bool) (r : Reply) → (numberOf (ofRunReply r) ≡ 0 → r ≡ Accepted (valueOf (ofRunReply r))) →
         numberOf (ofRunReply (cond faulty Unlawful (cond as-run r (Differs read)))) ≡ 0 →
@@ -57,11 +58,11 @@ zero-accepted score state read (ws ∷ more) =
     go false false r rest z = absurd (omega arith)
 
 module _ (score : List ℕ) (accepted : verdicts.numberOf (check.verdict score) ≡ 0) where
-  pub start-stands : Stands score (lawful score accepted) (agents-counted score accepted) (asBytes (startState (decode score))) (startState (decode score))
+  pub start-stands : Stands score (lawful score accepted) (agents-counted score accepted) (startBytes (decode score)) (startState (decode score))
   unfolding LawfulState
   start-stands =
       let law = lawful score accepted in
-      written-stands score law (agents-counted score accepted) (startState (decode score))
+      written-stands score law (agents-counted score accepted) (startState (decode score)) 0
       (on-cons (law .roots-known 0 (law .some-roots)) (λ i m. absurd (List·Memᴰ·not-nil m)))
 
   module _ (journal scratch : List ℕ) (long : length scratch ≡ scratchBytes) where
@@ -69,8 +70,8 @@ module _ (score : List ℕ) (accepted : verdicts.numberOf (check.verdict score) 
     unfolding exit
     check-reply = rw (accepted, long)
 
-    pub history-accepted : (n : ℕ) → IsHistory (decode score) (startState (decode score)) journal n → exit score journal scratch .reply ≡ Accepted n
-    history-accepted n h =
+    pub history-accepted : (n : ℕ) → IsHistory (decode score) (startState (decode score)) journal n → n ≤ lastNumber → exit score journal scratch .reply ≡ Accepted n
+    history-accepted n h few =
         let sc = decode score in
         let law = lawful score accepted in
         let good : formOf true (sizes score .tokens) journal ≡ Good =
@@ -78,31 +79,34 @@ module _ (score : List ℕ) (accepted : verdicts.numberOf (check.verdict score) 
         let read = ap (λ x. instantsIn (words x)) (h .is) ∙ history-instants sc law (startState sc) (h .inputs) (h .rising) in
         check-reply
         ∙ ap (λ f. byForm f (left scratch) (left noScratch (checked score journal)) .reply) good
-        ∙ ap (checkFrom score (asBytes (startState sc)) 0) read
-        ∙ check-entries score law (agents-counted score accepted) (h .inputs) (h .rising) (asBytes (startState sc)) (startState sc) start-stands 0
+        ∙ ap (checkFrom score (startBytes sc) 0) read
+        ∙ check-entries score law (agents-counted score accepted) (h .inputs) (h .rising) (startBytes sc) (startState sc) start-stands 0 (omega (arith, number-round (startState sc) 0 (omega arith), h .instants))
         ∙ ap Accepted (omega (arith, h .instants))
 
-    pub accepted-history : Slice journal → (n : ℕ) → numberOf (ofRunReply (exit score journal scratch .reply)) ≡ 0 → valueOf (ofRunReply (exit score journal scratch .reply)) ≡ n → IsHistory (decode score) (startState (decode score)) journal n
+    pub accepted-history : Slice journal → (n : ℕ) → numberOf (ofRunReply (exit score journal scratch .reply)) ≡ 0 → valueOf (ofRunReply (exit score journal scratch .reply)) ≡ n → IsHistory (decode score) (startState (decode score)) journal n × (n ≤ lastNumber)
     accepted-history lent n z v =
         go (formOf true (sizes score .tokens) journal) refl (ap (λ r. numberOf (ofRunReply r)) (sym check-reply) ∙ z) (ap (λ r. valueOf (ofRunReply r)) (sym check-reply) ∙ v)
       where
-        is-history : formOf true (sizes score .tokens) journal ≡ Good → checked score journal ≡ Accepted n → IsHistory (decode score) (startState (decode score)) journal n
+        is-history : formOf true (sizes score .tokens) journal ≡ Good → checked score journal ≡ Accepted n → IsHistory (decode score) (startState (decode score)) journal n × (n ≤ lastNumber)
         is-history g e =
             let sc = decode score in
             let instants = instantsIn (words journal) in
+            let zero : instantNumber (startBytes sc) ≡ 0 = number-round (startState sc) 0 (omega arith) in
             let rising : Within (λ ws. Rising (sc .tokens) (inputsIn ws)) instants = λ ws m. subst⁻¹ (λ t. Rising t (inputsIn ws)) (decode-tokens score) (good-instants true (sizes score .tokens) journal g (lent .small) ws m .formed .inputs) in
-            let x = check-exact score (lawful score accepted) (agents-counted score accepted) instants rising (asBytes (startState sc)) (startState sc) start-stands 0 n e in
-            record {
-              inputs = map inputsIn instants;
-              rising = on-map (Rising (sc .tokens)) inputsIn instants rising;
-              instants = length-map instants inputsIn ∙ omega arith;
-              is =
-                  sym (bytes-words journal (lent .small) (good-whole true (sizes score .tokens) journal g))
-                  ∙ ap bytesOf (good-words true (sizes score .tokens) journal g ∙ ap flatten (x .0) ∙ sym (history-joined sc (startState sc) (map inputsIn instants)));
-            }
+            let x = check-exact score (lawful score accepted) (agents-counted score accepted) instants rising (startBytes sc) (startState sc) start-stands 0 n (omega (arith, zero)) e in (
+              record {
+                inputs = map inputsIn instants;
+                rising = on-map (Rising (sc .tokens)) inputsIn instants rising;
+                instants = length-map instants inputsIn ∙ omega arith;
+                is =
+                    sym (bytes-words journal (lent .small) (good-whole true (sizes score .tokens) journal g))
+                    ∙ ap bytesOf (good-words true (sizes score .tokens) journal g ∙ ap flatten (x .0) ∙ sym (history-joined sc (startState sc) (map inputsIn instants)));
+              },
+              omega (arith, x .1, x .2, zero),
+            )
 
         go : (f : Form) → formOf true (sizes score .tokens) journal ≡ f →
-            numberOf (ofRunReply (byForm f (left scratch) (left noScratch (checked score journal)) .reply)) ≡ 0 → valueOf (ofRunReply (byForm f (left scratch) (left noScratch (checked score journal)) .reply)) ≡ n → IsHistory (decode score) (startState (decode score)) journal n
-        go Good g z v = is-history g (zero-accepted score (asBytes (startState (decode score))) 0 (instantsIn (words journal)) z ∙ ap Accepted v)
+            numberOf (ofRunReply (byForm f (left scratch) (left noScratch (checked score journal)) .reply)) ≡ 0 → valueOf (ofRunReply (byForm f (left scratch) (left noScratch (checked score journal)) .reply)) ≡ n → IsHistory (decode score) (startState (decode score)) journal n × (n ≤ lastNumber)
+        go Good g z v = is-history g (zero-accepted score (startBytes (decode score)) 0 (instantsIn (words journal)) z ∙ ap Accepted v)
         go Bytes g z v = absurd (omega arith)
         go (Word k) g z v = absurd (omega arith)

@@ -12,15 +12,15 @@ use Rattle.score.proofs.ScoreJournalCheck.{read}
 use Rattle.demands.specs.Calls.{written}
 use Rattle.demands.specs.JournalExact.{Exactly, startHistory, RunsAccepted, JournalExact}
 use Rattle.demands.proofs.Runs.{taken-rises}
-use Rattle.demands.proofs.JournalRuns.{run-writes, run-count}
+use Rattle.demands.proofs.JournalRuns.{run-writes, run-count, run-below}
 use Rattle.demands.proofs.JournalChecks.{history-accepted, accepted-history}
 
 pub exactly : Exactly
 exactly score journal before after answer n accepted long c =
     let r = read score journal before after answer c in (
       λ e. accepted-history score accepted journal before long (c .lent) n (sym (r .number) ∙ e .0) (sym (r .value) ∙ e .1),
-      λ h.
-          let e = history-accepted score accepted journal before long n h in
+      λ h few.
+          let e = history-accepted score accepted journal before long n h few in
           (r .number ∙ ap (λ x. numberOf (ofRunReply x)) e, r .value ∙ ap (λ x. valueOf (ofRunReply x)) e),
     )
 
@@ -29,7 +29,8 @@ runs-accepted score inputs before after answer accepted at c = (
   run-writes score inputs before after answer c accepted at,
   λ scratch scratch′ checked long d.
       exactly score (bytesOf (startHistory score inputs (written answer))) scratch scratch′ checked (written answer) accepted long d .1
-      (record { inputs = take (written answer) (inputLists inputs); rising = taken-rises c; instants = run-count score inputs before after answer c; is = refl }),
+      (record { inputs = take (written answer) (inputLists inputs); rising = taken-rises c; instants = run-count score inputs before after answer c; is = refl })
+      (run-below score inputs before after answer c at),
 )
 
 pub journal-exact : JournalExact

@@ -1,9 +1,10 @@
 -- Runs from the start state of an accepted score, held against the history.
 --     run-writes         what a run writes is the history of the first instants of its list, and the journal beyond is as it was
 --     run-count          the list has as many instants as the run wrote
+--     run-below          from the start they are not past the last number
 use mathlib.Core.Path.{_≡_, sym, ap, subst⁻¹, _∙_}
 use mathlib.Core.List.{List, _++_}
-use Prim.Native.Nat.{ℕ, _*_}
+use Prim.Native.Nat.{ℕ, _*_, _≤_}
 use native.Mathlib.Omega.{arith}
 use lib.ListN.{length, take, drop}
 use lib.Seq.{length-take-le}
@@ -12,12 +13,14 @@ use Rattle.format.specs.Decode.{decode}
 use Rattle.verdicts.specs.Verdicts.{numberOf}
 use Rattle.scorefile.specs.Check.{verdict}
 use Rattle.bits.specs.Bits.{bytesOf}
-use Rattle.lent.specs.States.{asBytes}
+use Rattle.lent.specs.States.{instantNumber, startBytes, lastNumber}
+use Rattle.lent.proofs.Numbered.{number-round}
 use Rattle.parts.specs.Instants.{inputLists}
 use Rattle.journal.specs.History.{history}
 use Rattle.history.proofs.Stands.{Stands}
 use Rattle.runlist.proofs.Counts.{run-few}
 use Rattle.runlist.proofs.Exact.{run-history}
+use Rattle.runlist.proofs.Numbers.{run-number}
 use Rattle.run.specs.RunCall.{Lent}
 use Rattle.score.specs.ScoreRun.{ScoreRun}
 use Rattle.demands.specs.Calls.{written}
@@ -27,7 +30,7 @@ use Rattle.demands.proofs.Runs.{Ended, refused, ran, run-ended}
 use Rattle.demands.proofs.JournalChecks.{start-stands}
 
 module _ (score inputs : List ℕ) (before after : Lent) (answer : ℕ) (c : ScoreRun score inputs before after answer) where
-  pub run-writes : numberOf (verdict score) ≡ 0 → before .state ≡ asBytes (startState (decode score)) →
+  pub run-writes : numberOf (verdict score) ≡ 0 → before .state ≡ startBytes (decode score) →
       after .journal ≡ bytesOf (startHistory score inputs (written answer)) ++ drop (4 * length (startHistory score inputs (written answer))) (before .journal)
   unfolding history bytesOf
   run-writes accepted at = go (run-ended c)
@@ -47,3 +50,13 @@ module _ (score inputs : List ℕ) (before after : Lent) (answer : ℕ) (c : Sco
       go : Ended score inputs before after answer → length (take (written answer) (inputLists inputs)) ≡ written answer
       go (refused n e) = rw n
       go (ran f n e) = length-take-le (written answer) (inputLists inputs) (omega (arith, run-few score (before .state) (length (before .journal)) (inputLists inputs)))
+
+  pub run-below : before .state ≡ startBytes (decode score) → written answer ≤ lastNumber
+  run-below at = go (run-ended c)
+    where
+      zero : instantNumber (before .state) ≡ 0
+      zero = ap instantNumber at ∙ number-round (startState (decode score)) 0 (omega arith)
+
+      go : Ended score inputs before after answer → written answer ≤ lastNumber
+      go (refused n e) = omega arith
+      go (ran f n e) = let r = run-number score (inputLists inputs) (before .state) (length (before .journal)) (omega (arith, zero)) in omega (arith, zero, r .higher, r .few)

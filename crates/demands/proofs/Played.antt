@@ -2,33 +2,38 @@
 --     played-instant       an accepted instant call on the map of rising tokens has those tokens as its inputs
 --     plays-linked         such calls, each from the state that the one before left, are instants in a row
 --     lengths-right        buffers of the right lengths pass the test of number 8
---     plays                from a state without fault there are such calls along any rising inputs
-use mathlib.Core.Path.{_≡_, refl, ap, subst, subst⁻¹, _∙_}
+--     plays                from a state without fault there are such calls along the instants that a run writes
+use mathlib.Core.Path.{_≡_, refl, sym, ap, subst, subst⁻¹, _∙_}
 use mathlib.Core.Bool.{false}
 use mathlib.Core.List.{List, [], _∷_, List·Memᴰ·head, List·Memᴰ·tail}
-use Prim.Native.Nat.{ℕ}
+use Prim.Native.Nat.{ℕ, suc, _*_, _-_}
 use native.Mathlib.Omega.{arith}
-use lib.ListN.{length, replicate, length-replicate}
-use Rattle.tcc.specs.Instant.{after}
+use lib.ListN.{length, take, replicate, length-replicate}
+use Rattle.tcc.specs.Instant.{Answer, after}
 use Rattle.format.specs.Decode.{sizes, decode}
 use Rattle.format.proofs.Decode.{decode-tokens, sizes-few}
 use Rattle.verdicts.specs.Verdicts as verdicts
 use Rattle.scorefile.specs.Check as check
 use Rattle.lent.specs.Lengths.{stateBytes, mapBytes, scratchBytes, noScratch}
-use Rattle.lent.specs.States.{stateFault}
-use Rattle.lent.proofs.Round.{asBytes-length}
+use Rattle.lent.specs.States.{stateFault, instantNumber, nextBytes, atLast}
+use Rattle.lent.proofs.Numbered.{numbered-length, numbered-fault}
 use Rattle.maps.specs.Maps.{tokensIn, mapOf}
 use Rattle.maps.proofs.Round.{mapOf-length}
 use Rattle.instant.specs.InstantCall.{Lent, lent, lengthFault, exit}
 use Rattle.instant.proofs.Exits.{Lengths-are}
-use Rattle.journal.specs.History.{Rising}
+use Rattle.journal.specs.History.{entry, Rising}
 use Rattle.journal.proofs.Rising.{rising-below, rising-map}
+use Rattle.history.specs.AnswerIn.{answerIn}
+use Rattle.runlist.specs.declared.Stop.{Stop}
+use Rattle.runlist.specs.declared.Stop.the-variants.{Not, Next, Last, Room}
+use Rattle.runlist.specs.Run.{stopAt, Ran, unlessStopped, runFrom}
+use Rattle.runlist.proofs.Took.{not-last}
 use Rattle.answer.specs.Answer.{numberIn, packed}
 use Rattle.answer.specs.Replies.{ofReply}
 use Rattle.score.specs.ScoreInstant.{ScoreInstant}
 use Rattle.demands.specs.Calls.{Answered, answeredBy, written, Plays, none, then}
-use Rattle.demands.proofs.Accepted.{given, Known, known-input}
-use Rattle.demands.proofs.Instants.{IsInstant, accepted-instant, settled-instant, after-faultless}
+use Rattle.demands.proofs.Accepted.{given, Known, known-input, next-faultless}
+use Rattle.demands.proofs.Instants.{IsInstant, accepted-instant, settled-instant}
 use Rattle.demands.proofs.Linked.{Linked}
 use Rattle.demands.proofs.Linked as linked
 use Rattle.demands.proofs.RunExit.{Rises}
@@ -48,13 +53,24 @@ module _ (score : List ℕ) where
   plays-linked rises (then {inputs = inputs} at c n x) = linked.then at (played-instant (rises inputs (List·Memᴰ·head refl)) c n) (plays-linked (λ l m. rises l (List·Memᴰ·tail m)) x)
 
   module _ (accepted : verdicts.numberOf (check.verdict score) ≡ 0) where
-    pub plays : (lists : List (List ℕ)) → Rises score lists → (s : List ℕ) → length s ≡ stateBytes → stateFault (sizes score .agents) s ≡ false → (played : List Answered) × (last : List ℕ) × Plays score s lists played last
-    plays [] rises s long faultless = ([], s, none)
-    plays (inputs ∷ more) rises s long faultless =
-        let h = played-instant rising called answers in
-        let rest = plays more (λ l m. rises l (List·Memᴰ·tail m)) (behind .state) (ap (λ q. length (q .after)) (h .is) ∙ asBytes-length (after (given score s inputs))) (after-faultless h) in
-        (answeredBy inputs before behind answer ∷ rest .0, rest .1, then refl called answers (rest .2))
+    -- the instants of a list, so many of them
+    abbrev Some : List ℕ → ℕ → List (List ℕ) → Type 0
+    Some s n lists = (played : List Answered) × (last : List ℕ) × Plays score s (take n lists) played last
+
+    pub plays : (lists : List (List ℕ)) → Rises score lists → (s : List ℕ) → length s ≡ stateBytes → stateFault (sizes score .agents) s ≡ false → (room : ℕ) → Some s (runFrom score s room lists .instants) lists
+    unfolding runFrom answerIn
+    plays [] rises s long faultless room = ([], s, none)
+    plays (inputs ∷ more) rises s long faultless room =
+        go (stopAt score (atLast s) a (4 * length words) room) (not-last score (atLast s) a (4 * length words) room)
+        (runFrom score (nextBytes s a) (room - 4 * length words) more)
+        (plays more (λ l m. rises l (List·Memᴰ·tail m)) (nextBytes s a) (numbered-length (after a) (suc (instantNumber s))) follows (room - 4 * length words))
       where
+        a : Answer
+        a = given score s inputs
+
+        words : List ℕ
+        words = entry (decode score) inputs a
+
         rising : Rising (decode score .tokens) inputs
         rising = rises inputs (List·Memᴰ·head refl)
 
@@ -70,8 +86,11 @@ module _ (score : List ℕ) where
         called : ScoreInstant score (mapOf inputs) before behind answer
         called = record { written = refl; answered = refl }
 
-        answers : numberIn answer ≡ 0
-        answers = settled-instant called (record {
+        follows : stateFault (sizes score .agents) (nextBytes s a) ≡ false
+        follows = numbered-fault (after a) (suc (instantNumber s)) (sizes score .agents) ∙ next-faultless score accepted s faultless inputs (rising-below rising)
+
+        answers : atLast s ≡ false → numberIn answer ≡ 0
+        answers below = settled-instant called (record {
           accepted = accepted;
           long = lengths-right (mapOf inputs) before (record {
             state-long = long;
@@ -82,4 +101,14 @@ module _ (score : List ℕ) where
           });
           faultless = faultless;
           known = known-input score (mapOf inputs) (subst⁻¹ (Known score) (tokens-back rising) (rising-below rising));
+          below = below;
         })
+
+        go : (stop : Stop) → (stop ≡ Not → atLast s ≡ false) → (r : Ran) → Some (nextBytes s a) (r .instants) more → Some s (unlessStopped stop s words r .instants) (inputs ∷ more)
+        go Not below r rest =
+            let n = answers (below refl) in
+            let ends : nextBytes s a ≡ behind .state = sym (ap (λ q. q .after) (played-instant rising called n .is)) in
+            (answeredBy inputs before behind answer ∷ rest .0, rest .1, then refl called n (subst (λ t. Plays score t (take (r .instants) more) (rest .0) (rest .1)) ends (rest .2)))
+        go Next below r rest = ([], s, none)
+        go Last below r rest = ([], s, none)
+        go Room below r rest = ([], s, none)

@@ -1,13 +1,13 @@
 -- The exits of a run.
 --     Rises                the inputs of each instant of a list rise and are the score's tokens
 --     Fit                  what the tests of 1 to 9, 12 and 13 leave: the score, the lengths, the state and the list are right
---     Outcome              a refusal by a number that is neither 0, 11 nor 15, which leaves all as it was; or the instants
---                          up to the end or to the first that has no room
+--     Outcome              a refusal by a number that is neither 0, 11, 15 nor 18, which leaves all as it was; or the instants
+--                          up to the end, to the last number or to the first that has no room
 --     outcome              there is no other exit
 use mathlib.Core.Path.{_≡_, refl, sym, subst, _∙_}
 use mathlib.Core.Bool.{Bool, true, false, cond, not, _||_}
 use mathlib.Core.List.{List, [], _∷_, List·Memᴰ, List·Memᴰ·head, List·Memᴰ·tail}
-use Prim.Native.Nat.{ℕ, _*_, _-_}
+use Prim.Native.Nat.{ℕ, suc, _*_, _-_}
 use native.Mathlib.Omega.{arith}
 use borrow.Author.Tests.{eqb-true, eqb-false, not-true, not-false}
 use lib.Dec.{eqb, leb}
@@ -21,7 +21,8 @@ use Rattle.verdicts.specs.Verdicts as verdicts
 use Rattle.verdicts.proofs.Verdicts.{number-few}
 use Rattle.scorefile.specs.Check as check
 use Rattle.lent.specs.Lengths.{stateBytes, scratchBytes}
-use Rattle.lent.specs.States.{stateFault, asBytes}
+use Rattle.lent.specs.States.{stateFault, asBytes, instantNumber, nextBytes, atLast}
+use Rattle.lent.proofs.Numbered.{numbered-fault}
 use Rattle.form.specs.declared.Form.{Form}
 use Rattle.form.specs.declared.Form.the-variants.{Good, Bytes, Word}
 use Rattle.form.specs.Form.{formOf}
@@ -33,7 +34,7 @@ use Rattle.history.specs.declared.Reply.{Reply}
 use Rattle.history.specs.declared.Reply.the-variants.{Score as Turned, Lengths, State, Bytes as NoWords, Word as Against}
 use Rattle.history.specs.AnswerIn.{answerIn}
 use Rattle.history.specs.ByForm.{byForm}
-use Rattle.runlist.specs.declared.Stop.the-variants.{Not, Next, Room}
+use Rattle.runlist.specs.declared.Stop.the-variants.{Not, Next, Last, Room}
 use Rattle.runlist.specs.Run.{stopAt, Ran, unlessStopped, runFrom}
 use Rattle.run.specs.RunCall.{Lent, Exit, lengthFault, kept, ended, exit}
 use Rattle.answer.specs.Answer.{numberOf}
@@ -54,7 +55,7 @@ abbrev pub ranOn : List ℕ → List ℕ → Lent → Ran
 ranOn score inputs l = runFrom score (l .state) (length (l .journal)) (inputLists inputs)
 
 pub data Outcome (score inputs : List ℕ) (l : Lent) : Exit → Type 0 where
-  refuses : (r : Reply) → (numberOf (ofRunReply r) ≡ 0 → ⊥) → (numberOf (ofRunReply r) ≡ 11 → ⊥) → (numberOf (ofRunReply r) ≡ 15 → ⊥) → Outcome score inputs l (kept l r)
+  refuses : (r : Reply) → (numberOf (ofRunReply r) ≡ 0 → ⊥) → (numberOf (ofRunReply r) ≡ 11 → ⊥) → (numberOf (ofRunReply r) ≡ 15 → ⊥) → (numberOf (ofRunReply r) ≡ 18 → ⊥) → Outcome score inputs l (kept l r)
   runs : Fit score inputs l → (ranOn score inputs l .stop ≡ Next → ⊥) → Outcome score inputs l (ended l (ranOn score inputs l))
 
 -- no instant is stopped by 11
@@ -63,7 +64,8 @@ module _ (score : List ℕ) (accepted : verdicts.numberOf (check.verdict score) 
   unfolding runFrom answerIn stopAt
   never-next [] rises s faultless room = λ e. let z : _≡_ {A = ℕ} 0 1 = cc in omega arith
   never-next (inputs ∷ more) rises s faultless room =
-      rw next (go (leb (4 * length words) room) (runFrom score (asBytes (after a)) (room - 4 * length words) more) (never-next more (λ l m. rises l (List·Memᴰ·tail m)) (asBytes (after a)) next (room - 4 * length words)))
+      rw next (go (atLast s) (leb (4 * length words) room) (runFrom score (nextBytes s a) (room - 4 * length words) more)
+      (never-next more (λ l m. rises l (List·Memᴰ·tail m)) (nextBytes s a) (numbered-fault (after a) (suc (instantNumber s)) (sizes score .agents) ∙ next) (room - 4 * length words)))
     where
       a : Answer
       a = given score s inputs
@@ -74,9 +76,10 @@ module _ (score : List ℕ) (accepted : verdicts.numberOf (check.verdict score) 
       next : stateFault (sizes score .agents) (asBytes (after a)) ≡ false
       next = next-faultless score accepted s faultless inputs (rising-below (rises inputs (List·Memᴰ·head refl)))
 
-      go : (fits : Bool) (r : Ran) → (r .stop ≡ Next → ⊥) → unlessStopped (cond fits Not Room) s words r .stop ≡ Next → ⊥
-      go true r h e = h e
-      go false r h e = let z : _≡_ {A = ℕ} 0 1 = cc in omega arith
+      go : (last fits : Bool) (r : Ran) → (r .stop ≡ Next → ⊥) → unlessStopped (cond last Last (cond fits Not Room)) s words r .stop ≡ Next → ⊥
+      go true fits r h e = let z : _≡_ {A = ℕ} 0 1 = cc in omega arith
+      go false true r h e = h e
+      go false false r h e = let z : _≡_ {A = ℕ} 0 1 = cc in omega arith
 
 first-false : (a b : Bool) → (a || b) ≡ false → a ≡ false
 first-false true b e = absurd (true-is-false refl e)
@@ -86,12 +89,12 @@ module _ (score inputs : List ℕ) (l : Lent) where
   turned-down : (v : Verdict) → (verdicts.numberOf v ≡ 0 → ⊥) → Outcome score inputs l (kept l (Turned v))
   turned-down v n =
       let m = reply-number (verdicts.numberOf v) (verdicts.valueOf v) in
-      refuses (Turned v) (λ e. n (sym m ∙ e)) (λ e. omega (arith, number-few v, m)) (λ e. omega (arith, number-few v, m))
+      refuses (Turned v) (λ e. n (sym m ∙ e)) (λ e. omega (arith, number-few v, m)) (λ e. omega (arith, number-few v, m)) (λ e. omega (arith, number-few v, m))
 
   formed : (f : Form) → formOf false (sizes score .tokens) inputs ≡ f → (f ≡ Good → Outcome score inputs l (ended l (ranOn score inputs l))) → Outcome score inputs l (byForm f (kept l) (ended l (ranOn score inputs l)))
   formed Good e good = good refl
-  formed Bytes e good = refuses NoWords (λ z. omega arith) (λ z. omega arith) (λ z. omega arith)
-  formed (Word k) e good = refuses (Against k) (λ z. omega arith) (λ z. omega arith) (λ z. omega arith)
+  formed Bytes e good = refuses NoWords (λ z. omega arith) (λ z. omega arith) (λ z. omega arith) (λ z. omega arith)
+  formed (Word k) e good = refuses (Against k) (λ z. omega arith) (λ z. omega arith) (λ z. omega arith) (λ z. omega arith)
 
   pub outcome : Outcome score inputs l (exit score inputs l)
   unfolding exit
@@ -99,9 +102,9 @@ module _ (score inputs : List ℕ) (l : Lent) where
       let n = verdicts.numberOf (check.verdict score) in
       by-test (Outcome score inputs l) (not (eqb n 0)) (λ e. turned-down (check.verdict score) (eqb-false n 0 (not-true (eqb n 0) e)))
       (λ ok. let accepted = eqb-true n 0 (not-false (eqb n 0) ok) in
-      by-test (Outcome score inputs l) (lengthFault l) (λ e. refuses Lengths (λ z. omega arith) (λ z. omega arith) (λ z. omega arith))
+      by-test (Outcome score inputs l) (lengthFault l) (λ e. refuses Lengths (λ z. omega arith) (λ z. omega arith) (λ z. omega arith) (λ z. omega arith))
       (λ right. let long = eqb-true (length (l .state)) stateBytes (not-false (eqb (length (l .state)) stateBytes) (first-false (not (eqb (length (l .state)) stateBytes)) (not (eqb (length (l .scratch)) scratchBytes)) right)) in
-      by-test (Outcome score inputs l) (stateFault (sizes score .agents) (l .state)) (λ e. refuses State (λ z. omega arith) (λ z. omega arith) (λ z. omega arith))
+      by-test (Outcome score inputs l) (stateFault (sizes score .agents) (l .state)) (λ e. refuses State (λ z. omega arith) (λ z. omega arith) (λ z. omega arith) (λ z. omega arith))
       (λ faultless. formed (formOf false (sizes score .tokens) inputs) refl
       (λ good. let rising : Rises score (inputLists inputs) = λ x m. subst (λ t. Rising t x) (sym (decode-tokens score)) (good-inputs false (sizes score .tokens) inputs good x m) in
       runs (record { accepted = accepted; long = long; faultless = faultless; rising = rising }) (never-next score accepted (inputLists inputs) rising (l .state) faultless (length (l .journal)))))))

@@ -14,15 +14,15 @@ use native.Mathlib.Omega.{arith}
 use borrow.Author.Tests.{ne-eqb}
 use lib.ListN.{length, take, drop}
 use Rattle.laws.proofs.Sets.{on-cons}
-use Rattle.tcc.specs.Instant.{Answer, after}
+use Rattle.tcc.specs.Instant.{Answer}
 use Rattle.format.specs.Decode.{decode}
 use Rattle.bits.specs.Bits.{bytesOf}
-use Rattle.lent.specs.States.{asBytes}
+use Rattle.lent.specs.States.{nextBytes, atLast}
 use Rattle.parts.specs.Instants.{inputLists}
 use Rattle.journal.specs.History.{entry}
 use Rattle.history.specs.AnswerIn.{answerIn}
 use Rattle.runlist.specs.declared.Stop.{Stop}
-use Rattle.runlist.specs.declared.Stop.the-variants.{Not, Next, Room}
+use Rattle.runlist.specs.declared.Stop.the-variants.{Not, Next, Last, Room}
 use Rattle.runlist.specs.Run.{stopAt, Ran, unlessStopped, runFrom}
 use Rattle.run.specs.RunCall.{ending, ended}
 use Rattle.run.specs.RunCall as run
@@ -47,8 +47,8 @@ module _ (score : List ℕ) where
   unfolding runFrom answerIn
   run-shows [] rises s room none = (refl, refl)
   run-shows (inputs ∷ more) rises s room x =
-      go (stopAt score a (4 * length words) room) (runFrom score (asBytes (after a)) (room - 4 * length words) more)
-      (λ played last. run-shows more (λ l m. rises l (List·Memᴰ·tail m)) (asBytes (after a)) (room - 4 * length words)) x
+      go (stopAt score (atLast s) a (4 * length words) room) (runFrom score (nextBytes s a) (room - 4 * length words) more)
+      (λ played last. run-shows more (λ l m. rises l (List·Memᴰ·tail m)) (nextBytes s a) (room - 4 * length words)) x
     where
       a : Answer
       a = given score s inputs
@@ -57,14 +57,15 @@ module _ (score : List ℕ) where
       words = entry (decode score) inputs a
 
       go : (stop : Stop) (r : Ran) {played : List Answered} {last : List ℕ} →
-          ((played : List Answered) (last : List ℕ) → Plays score (asBytes (after a)) (take (r .instants) more) played last → Shown r played last) →
+          ((played : List Answered) (last : List ℕ) → Plays score (nextBytes s a) (take (r .instants) more) played last → Shown r played last) →
           Plays score s (take (unlessStopped stop s words r .instants) (inputs ∷ more)) played last → Shown (unlessStopped stop s words r) played last
       go Not r rest (then {last = last} {played = played} {before = before} {after = behind} {answer = answer} at c n y) =
           let h = played-instant score (rises inputs (List·Memᴰ·head refl)) c n in
-          let ends : behind .state ≡ asBytes (after a) = ap (λ q. q .after) (h .is) ∙ ap (λ t. asBytes (after (given score t inputs))) at in
+          let ends : behind .state ≡ nextBytes s a = ap (λ q. q .after) (h .is) ∙ ap (λ t. nextBytes t (given score t inputs)) at in
           let shown = rest played last (subst (λ t. Plays score t (take (r .instants) more) played last) ends y) in
           (shown .0, ap₂ _++_ (sym (instant-shown h ∙ ap (λ t. entry (decode score) inputs (given score t inputs)) at)) (shown .1))
       go Next r rest none = (refl, refl)
+      go Last r rest none = (refl, refl)
       go Room r rest none = (refl, refl)
 
 take-member : {A : Type 0} (n : ℕ) (l : List A) (x : A) → List·Memᴰ x (take n l) → List·Memᴰ x l
@@ -75,14 +76,16 @@ take-member (suc n) (y ∷ l) x m = on-cons {P = λ z. List·Memᴰ z (y ∷ l)}
 all-written : (a n : ℕ) (stop : Stop) → (stop ≡ Next → ⊥) → numberIn a ≡ numberOf (ofRunReply (ending stop n)) → valueIn a ≡ valueOf (ofRunReply (ending stop n)) → written a ≡ n
 all-written a n Not h e v = rw e v
 all-written a n Next h e v = absurd (h refl)
+all-written a n Last h e v = rw e v
 all-written a n Room h e v = rw e v
 
-none-written : (a : ℕ) → (numberIn a ≡ 0 → ⊥) → (numberIn a ≡ 15 → ⊥) → written a ≡ 0
-none-written a not-zero not-full = rw (ne-eqb (numberIn a) 0 not-zero, ne-eqb (numberIn a) 15 not-full)
+none-written : (a : ℕ) → (numberIn a ≡ 0 → ⊥) → (numberIn a ≡ 15 → ⊥) → (numberIn a ≡ 18 → ⊥) → written a ≡ 0
+none-written a not-zero not-full not-last = rw (ne-eqb (numberIn a) 0 not-zero, ne-eqb (numberIn a) 15 not-full, ne-eqb (numberIn a) 18 not-last)
 
 not-eleven : (n : ℕ) (stop : Stop) → (stop ≡ Next → ⊥) → numberOf (ofRunReply (ending stop n)) ≡ 11 → ⊥
 not-eleven n Not h e = omega arith
 not-eleven n Next h e = h refl
+not-eleven n Last h e = omega arith
 not-eleven n Room h e = omega arith
 
 -- a run that was refused, or one that ran
@@ -101,15 +104,15 @@ module _ {score inputs : List ℕ} {l m : run.Lent} {a : ℕ} (c : ScoreRun scor
   run-eleven n = go (run.exit score inputs l) refl (outcome score inputs l)
     where
       go : (e : run.Exit) → run.exit score inputs l ≡ e → Outcome score inputs l e → ⊥
-      go e q (refuses r not-zero not-next not-full) = not-next (sym (number-is e q) ∙ n)
+      go e q (refuses r not-zero not-next not-full not-last) = not-next (sym (number-is e q) ∙ n)
       go e q (runs f h) = not-eleven (ranOn score inputs l .instants) (ranOn score inputs l .stop) h (sym (number-is e q) ∙ n)
 
   pub run-ended : Ended score inputs l m a
   run-ended = go (run.exit score inputs l) refl (outcome score inputs l)
     where
       go : (e : run.Exit) → run.exit score inputs l ≡ e → Outcome score inputs l e → Ended score inputs l m a
-      go e q (refuses r not-zero not-next not-full) =
-          refused (none-written a (λ n. not-zero (sym (number-is e q) ∙ n)) (λ n. not-full (sym (number-is e q) ∙ n))) (c .written ∙ ap (λ x. x .lent) q)
+      go e q (refuses r not-zero not-next not-full not-last) =
+          refused (none-written a (λ n. not-zero (sym (number-is e q) ∙ n)) (λ n. not-full (sym (number-is e q) ∙ n)) (λ n. not-last (sym (number-is e q) ∙ n))) (c .written ∙ ap (λ x. x .lent) q)
       go e q (runs f h) = ran f (all-written a (ranOn score inputs l .instants) (ranOn score inputs l .stop) h (number-is e q) (value-is e q)) (c .written ∙ ap (λ x. x .lent) q)
 
   pub taken-rises : Rises score (take (written a) (inputLists inputs))
@@ -124,7 +127,7 @@ module _ {score inputs : List ℕ} {l m : run.Lent} {a : ℕ} (c : ScoreRun scor
     where
       go : Ended score inputs l m a → (played : List Answered) × (last : List ℕ) × Plays score (l .state) (take (written a) (inputLists inputs)) played last
       go (refused n e) = rw n ([], l .state, none)
-      go (ran f n e) = plays score (f .accepted) (take (written a) (inputLists inputs)) taken-rises (l .state) (f .long) (f .faultless)
+      go (ran f n e) = rw n (plays score (f .accepted) (inputLists inputs) (f .rising) (l .state) (f .long) (f .faultless) (length (l .journal)))
 
   -- where nothing is written, all is as it was
   unplayed : {played : List Answered} {last : List ℕ} → m ≡ l → Plays score (l .state) [] played last → Shows l m played last

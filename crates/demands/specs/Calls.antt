@@ -4,8 +4,8 @@
 --     InTurn         each call of a list is lent the state that the one before left; any may be refused
 --     Answered       an answered instant as bytes show it: the state before it, its input tokens, its status, store map
 --                    and output map, the state after it
---     written        the instants that a run wrote, as its answer says: those of 0 and 15. (11 would not say; it is never
---                    returned: NoEleven.)
+--     written        the instants that a run wrote, as its answer says: those of 0, 15 and 18. (11 would not say; it is
+--                    never returned: NoEleven.)
 --     Plays          the instant call, over and over: from a state, along the input tokens of instants, to a state
 --     Answers        "The list's instants are those that were answered: one for an accepted instant call, for a run those
 --                    that it wrote, also where it was then stopped. Any other refused call has none." "An instant of a run
@@ -59,7 +59,7 @@ answeredBy inputs before after answer =
     record { before = before .state; inputs = inputs; status = statusIn answer; store = after .store; output = after .output; after = after .state }
 
 abbrev pub written : ℕ → ℕ
-written answer = cond (eqb (numberIn answer) 0 || eqb (numberIn answer) 15) (valueIn answer) 0
+written answer = cond (eqb (numberIn answer) 0 || eqb (numberIn answer) 15 || eqb (numberIn answer) 18) (valueIn answer) 0
 
 pub data Plays (score : List ℕ) : List ℕ → List (List ℕ) → List Answered → List ℕ → Type 0 where
   none : {s : List ℕ} → Plays score s [] [] s

@@ -20,7 +20,7 @@ journals-stand : JournalsStand
 journals-stand t score score′ journal before after before′ after′ answer answer′ x long long′ c c′ told zero =
     let h = exactly score journal before after answer (valueIn answer) (x .accepted) long c .0 (zero, refl) in
     exactly score′ journal before′ after′ answer′ (valueIn answer) (x .accepted′) long′ c′ .1
-    (is-history (adds-fact x) (lawful score (x .accepted)) h told)
+    (is-history (adds-fact x) (lawful score (x .accepted)) (h .0) told) (h .1)
 
 pub fact-for-told : FactForTold
 fact-for-told = (alike, journals-stand)

@@ -5,14 +5,14 @@
 --     linked-told        and two rows from one state, on the same inputs, are the same, with the states that they end in
 use mathlib.Core.Path.{_≡_, refl, sym, ap, ap₂, _∙_}
 use mathlib.Core.List.{List, _∷_, map, List·Memᴰ, List·Memᴰ·head, List·Memᴰ·tail}
-use Prim.Native.Nat.{ℕ}
+use Prim.Native.Nat.{ℕ, suc}
 use native.Mathlib.Omega.{arith}
 use Rattle.laws.proofs.Sets.{Within}
 use Rattle.tcc.specs.Instant.{output, after}
 use Rattle.tcc.proofs.SameAnswer.{SameAnswer}
 use Rattle.format.specs.Decode.{decode}
-use Rattle.lent.specs.States.{stateOf}
-use Rattle.lent.proofs.Round.{asBytes-same}
+use Rattle.lent.specs.States.{stateOf, instantNumber}
+use Rattle.lent.proofs.Numbered.{numbered-same}
 use Rattle.lent.proofs.SameState.{after-same}
 use Rattle.maps.specs.Maps.{tokensIn, mapOf}
 use Rattle.maps.proofs.Round.{mapOf-same}
@@ -45,7 +45,7 @@ module _ {t : ℕ} (score score′ : List ℕ) (x : OneMore t (decode score) (de
         status = same .status i;
         store = mapOf-same (same .store) i;
         output = mapOf (out i);
-        after = asBytes-same (after a) (after b) (after-same a b same) i;
+        after = numbered-same (after a) (after b) (suc (instantNumber s)) (after-same a b same) i;
       }
 
   pub linked-told : {s s′ last last′ : List ℕ} {l k : List Answered} → Linked score s l last → Linked score′ s′ k last′ → s ≡ s′ → map (λ p. p .inputs) l ≡ map (λ p. p .inputs) k →

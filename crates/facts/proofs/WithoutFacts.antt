@@ -4,24 +4,24 @@
 --     run-from-before, check-from-before     the instants of a run and of a journal check
 --     without-facts      the theorem
 use mathlib.Core.Path.{_≡_, refl, ap, subst, _∙_}
-use mathlib.Core.Bool.{true, false, cond, not}
+use mathlib.Core.Bool.{true, false, cond, not, _&&_}
 use mathlib.Core.List.{List, [], _∷_}
 use Prim.Native.Nat.{ℕ, suc, _-_, _*_}
 use native.Mathlib.Decide.{ℕ-discrete}
 use borrow.Author.Tests.{eq-eqb, ne-eqb}
 use lib.Dec.{eqb}
 use lib.ListN.{length}
-use Rattle.tcc.specs.Instant.{startState, answer, after}
+use Rattle.tcc.specs.Instant.{answer, after}
 use Rattle.words.specs.Word.{words}
 use Rattle.format.specs.Decode.{sizes}
 use Rattle.verdicts.specs.declared.Verdict.{Verdict}
 use Rattle.verdicts.specs.Verdicts.{numberOf}
 use Rattle.scorefile.specs.Check.{verdict}
 use Rattle.lent.specs.Lengths.{scratchBytes, noScratch}
-use Rattle.lent.specs.States.{stateFault, stateOf, asBytes}
+use Rattle.lent.specs.States.{stateFault, stateOf, asBytes, startBytes, nextBytes, atLast}
 use Rattle.maps.specs.Maps.{tokensIn}
 use Rattle.instant.specs.InstantCall.{Lent, lengthFault, tokenFault, kept, cleared, answered, exit}
-use Rattle.instant.specs.declared.Reply.the-variants.{Score as Turned, Lengths, State, Input, Next}
+use Rattle.instant.specs.declared.Reply.the-variants.{Score as Turned, Lengths, State, Input, Last, Next}
 use Rattle.form.specs.Form.{formOf}
 use Rattle.parts.specs.Instants.{instantsIn, inputsIn, inputLists}
 use Rattle.journal.specs.History.{entry}
@@ -56,7 +56,8 @@ module _ (score : List ℕ) (no-fact : NoFact score) where
       cond (lengthFault input l) (kept l Lengths)
       (cond (stateFault (sizes score .agents) (l .state)) (kept l State)
       (cond (tokenFault score input) (kept l Input)
-      (cond (stateFault (sizes score .agents) (asBytes (after a))) (cleared l Next) (answered sc a)))))
+      (cond (atLast (l .state)) (kept l Last)
+      (cond (stateFault (sizes score .agents) (asBytes (after a))) (cleared l Next) (answered sc (l .state) a))))))
       (score-before score no-fact accepted))
 
   module _ (accepted : numberOf (verdict score) ≡ 0) where
@@ -67,9 +68,9 @@ module _ (score : List ℕ) (no-fact : NoFact score) where
         let a = answer (decodeBefore score) (stateOf state) inputs in
         let e = entry (decodeBefore score) inputs a in
         ap (λ sc. let b = answer sc (stateOf state) inputs in let f = entry sc inputs b in
-        unlessStopped (stopAt score b (4 * length f) room) state f (runFrom score (asBytes (after b)) (room - 4 * length f) more))
+        unlessStopped (stopAt score (atLast state) b (4 * length f) room) state f (runFrom score (nextBytes state b) (room - 4 * length f) more))
         (score-before score no-fact accepted)
-        ∙ ap (unlessStopped (stopAt score a (4 * length e) room) state e) (run-from-before more (asBytes (after a)) (room - 4 * length e))
+        ∙ ap (unlessStopped (stopAt score (atLast state) a (4 * length e) room) state e) (run-from-before more (nextBytes state a) (room - 4 * length e))
 
     check-from-before : (l : List (List ℕ)) (state : List ℕ) (read : ℕ) → checkFrom score state read l ≡ checkFromBefore score state read l
     unfolding checkFrom answerIn
@@ -78,10 +79,10 @@ module _ (score : List ℕ) (no-fact : NoFact score) where
         let a = answer (decodeBefore score) (stateOf state) (inputsIn ws) in
         ap (λ sc. let b = answer sc (stateOf state) (inputsIn ws) in
         cond (stateFault (sizes score .agents) (asBytes (after b))) reply.Unlawful
-        (cond (same ws (entry sc (inputsIn ws) b)) (checkFrom score (asBytes (after b)) (suc read) more) (reply.Differs read)))
+        (cond (not (atLast state) && same ws (entry sc (inputsIn ws) b)) (checkFrom score (nextBytes state b) (suc read) more) (reply.Differs read)))
         (score-before score no-fact accepted)
-        ∙ ap (λ r. cond (stateFault (sizes score .agents) (asBytes (after a))) reply.Unlawful (cond (same ws (entry (decodeBefore score) (inputsIn ws) a)) r (reply.Differs read)))
-        (check-from-before more (asBytes (after a)) (suc read))
+        ∙ ap (λ r. cond (stateFault (sizes score .agents) (asBytes (after a))) reply.Unlawful (cond (not (atLast state) && same ws (entry (decodeBefore score) (inputsIn ws) a)) r (reply.Differs read)))
+        (check-from-before more (nextBytes state a) (suc read))
 
   run-before : (inputs : List ℕ) (l : run.Lent) → run.exit score inputs l ≡ runBefore score inputs l
   unfolding run.exit
@@ -96,8 +97,8 @@ module _ (score : List ℕ) (no-fact : NoFact score) where
   check-before journal l = turned-before (λ v. journalcheck.left l (reply.Score v)) _ _ (λ accepted.
       ap (λ r. cond (not (eqb (length l) scratchBytes)) (journalcheck.left l reply.Lengths)
       (byForm (formOf true (sizes score .tokens) journal) (journalcheck.left l) (journalcheck.left noScratch r)))
-      (ap (λ sc. checkFrom score (asBytes (startState sc)) 0 (instantsIn (words journal))) (score-before score no-fact accepted)
-      ∙ check-from-before accepted (instantsIn (words journal)) (asBytes (startState (decodeBefore score))) 0))
+      (ap (λ sc. checkFrom score (startBytes sc) 0 (instantsIn (words journal))) (score-before score no-fact accepted)
+      ∙ check-from-before accepted (instantsIn (words journal)) (startBytes (decodeBefore score)) 0))
 
   calls-before : CallsBefore score
   calls-before = record {

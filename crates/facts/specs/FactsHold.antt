@@ -8,14 +8,14 @@
 use mathlib.Core.Path.{_≡_}
 use mathlib.Core.Bool.{cond}
 use mathlib.Core.List.{List, [], List·Memᴰ}
-use Prim.Native.Nat.{ℕ, _≤_}
+use Prim.Native.Nat.{ℕ, suc, _≤_}
 use Rattle.laws.specs.Sets.{has}
 use Rattle.tcc.specs.Closure.{Rule}
 use Rattle.tcc.specs.Score.{Score}
 use Rattle.tcc.specs.Store.{closure}
 use Rattle.tcc.specs.Instant.{output, running, aborted}
 use Rattle.format.specs.Decode.{decode}
-use Rattle.lent.specs.States.{agentsIn, asBytes}
+use Rattle.lent.specs.States.{agentsIn, instantNumber, numbered}
 use Rattle.maps.specs.Maps.{tokensIn, mapOf}
 use Rattle.demands.specs.Calls.{Call, InTurn, Answered, Answers}
 use Rattle.demands.specs.Determinacy.{Running}
@@ -27,8 +27,8 @@ pub record HoldsFacts (sc : Score) (p : Answered) : Type 0 where
   pub sent : p .status ≡ 0 → (t : ℕ) → List·Memᴰ t (closure sc []) → sc .lowest-port ≤ t → t ≤ sc .highest-port → List·Memᴰ t (tokensIn (p .output))
   pub clash : (p .status ≡ 2 → ⊥) → List·Memᴰ 0 (closure sc []) → p .status ≡ 1
   pub alone : Running (p .before) → agentsIn (p .before) ≡ [] → p .inputs ≡ [] →
-      Holds p (cond (has 0 (closure sc [])) 1 0) (mapOf (closure sc [])) (mapOf (output sc (cond (has 0 (closure sc [])) 1 0) (closure sc []))) (asBytes (running []))
-  pub none : p .status ≡ 2 → Holds p 2 (mapOf []) (mapOf []) (asBytes aborted)
+      Holds p (cond (has 0 (closure sc [])) 1 0) (mapOf (closure sc [])) (mapOf (output sc (cond (has 0 (closure sc [])) 1 0) (closure sc []))) (numbered (running []) (suc (instantNumber (p .before))))
+  pub none : p .status ≡ 2 → Holds p 2 (mapOf []) (mapOf []) (numbered aborted (suc (instantNumber (p .before))))
 
 abbrev pub FactsHold : Type 0
 FactsHold =

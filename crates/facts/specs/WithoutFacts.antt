@@ -10,14 +10,14 @@
 --     CallsBefore                       every call does with a score what it did, in every byte, and answers as it did
 --     WithoutFacts                      so with each word with bit 27 clear, and with each score without a fact
 use mathlib.Core.Path.{_≡_}
-use mathlib.Core.Bool.{cond, true, false, not}
+use mathlib.Core.Bool.{cond, true, false, not, _&&_}
 use mathlib.Core.List.{List, [], _∷_, map}
 use Prim.Native.Nat.{ℕ, suc, _+_, _-_, _*_, _<_, _≤_}
 use lib.Dec.{eqb, ltb}
 use lib.ListN.{length, take, drop}
 use Rattle.tcc.specs.Closure.{Rule}
 use Rattle.tcc.specs.Score.{Score}
-use Rattle.tcc.specs.Instant.{Answer, startState, answer, after}
+use Rattle.tcc.specs.Instant.{Answer, answer, after}
 use Rattle.words.specs.Word.{field, kind, words, wordAt}
 use Rattle.format.specs.declared.Sizes.{Sizes}
 use Rattle.format.specs.Format.{isWord, agentOf, decodeAgent, ruleOf}
@@ -30,10 +30,10 @@ use Rattle.faults.specs.Faults.{lengthVerdict, headVerdict, countVerdict}
 use Rattle.circles.specs.Circles.{circleFrom}
 use Rattle.scorefile.specs.Check.{verdict}
 use Rattle.lent.specs.Lengths.{scratchBytes, noScratch}
-use Rattle.lent.specs.States.{stateFault, stateOf, asBytes}
+use Rattle.lent.specs.States.{stateFault, stateOf, asBytes, startBytes, nextBytes, atLast}
 use Rattle.maps.specs.Maps.{tokensIn}
 use Rattle.instant.specs.InstantCall.{Lent, Exit, lengthFault, tokenFault, kept, cleared, answered}
-use Rattle.instant.specs.declared.Reply.the-variants.{Score as Turned, Lengths, State, Input, Next}
+use Rattle.instant.specs.declared.Reply.the-variants.{Score as Turned, Lengths, State, Input, Last, Next}
 use Rattle.form.specs.Form.{formOf}
 use Rattle.parts.specs.Instants.{instantsIn, inputsIn, inputLists}
 use Rattle.journal.specs.History.{entry}
@@ -90,7 +90,7 @@ verdictBefore s =
     (circleFrom (decodeBefore s) 0 (length (decodeBefore s .roots))))))
 
 abbrev pub playedBefore : List ℕ → Lent → Answer → Exit
-playedBefore score l a = cond (stateFault (sizes score .agents) (asBytes (after a))) (cleared l Next) (answered (decodeBefore score) a)
+playedBefore score l a = cond (stateFault (sizes score .agents) (asBytes (after a))) (cleared l Next) (answered (decodeBefore score) (l .state) a)
 
 abbrev pub instantBefore : List ℕ → List ℕ → Lent → Exit
 instantBefore score input l =
@@ -98,14 +98,15 @@ instantBefore score input l =
     (cond (lengthFault input l) (kept l Lengths)
     (cond (stateFault (sizes score .agents) (l .state)) (kept l State)
     (cond (tokenFault score input) (kept l Input)
-    (playedBefore score l (answer (decodeBefore score) (stateOf (l .state)) (tokensIn input))))))
+    (cond (atLast (l .state)) (kept l Last)
+    (playedBefore score l (answer (decodeBefore score) (stateOf (l .state)) (tokensIn input)))))))
 
 abbrev pub runFromBefore : List ℕ → List ℕ → ℕ → List (List ℕ) → Ran
 runFromBefore score state room [] = stopped state Not
 runFromBefore score state room (inputs ∷ more) =
     let a = answer (decodeBefore score) (stateOf state) inputs in
     let e = entry (decodeBefore score) inputs a in
-    unlessStopped (stopAt score a (4 * length e) room) state e (runFromBefore score (asBytes (after a)) (room - 4 * length e) more)
+    unlessStopped (stopAt score (atLast state) a (4 * length e) room) state e (runFromBefore score (nextBytes state a) (room - 4 * length e) more)
 
 abbrev pub runBefore : List ℕ → List ℕ → run.Lent → run.Exit
 runBefore score inputs l =
@@ -120,14 +121,14 @@ checkFromBefore score state read [] = reply.Accepted read
 checkFromBefore score state read (ws ∷ more) =
     let a = answer (decodeBefore score) (stateOf state) (inputsIn ws) in
     cond (stateFault (sizes score .agents) (asBytes (after a))) reply.Unlawful
-    (cond (same ws (entry (decodeBefore score) (inputsIn ws) a)) (checkFromBefore score (asBytes (after a)) (suc read) more) (reply.Differs read))
+    (cond (not (atLast state) && same ws (entry (decodeBefore score) (inputsIn ws) a)) (checkFromBefore score (nextBytes state a) (suc read) more) (reply.Differs read))
 
 abbrev pub checkBefore : List ℕ → List ℕ → List ℕ → journalcheck.Exit
 checkBefore score journal scratch =
     cond (not (eqb (numberOf (verdictBefore score)) 0)) (journalcheck.left scratch (reply.Score (verdictBefore score)))
     (cond (not (eqb (length scratch) scratchBytes)) (journalcheck.left scratch reply.Lengths)
     (byForm (formOf true (sizes score .tokens) journal) (journalcheck.left scratch)
-    (journalcheck.left noScratch (checkFromBefore score (asBytes (startState (decodeBefore score))) 0 (instantsIn (words journal))))))
+    (journalcheck.left noScratch (checkFromBefore score (startBytes (decodeBefore score)) 0 (instantsIn (words journal))))))
 
 pub record WordBefore (w : ℕ) : Type 0 where
   pub rule : ruleOf w ≡ ruleBefore w

@@ -19,7 +19,7 @@ use Rattle.form.specs.declared.Form.the-variants.{Good, Bytes as NotWhole, Word
 use Rattle.form.specs.Form.{formOf}
 use Rattle.journal.proofs.Counts.{against-few}
 use Rattle.history.specs.declared.Reply.{Reply}
-use Rattle.history.specs.declared.Reply.the-variants.{Score as Turned, Lengths, State, Unlawful, Bytes, Word, Differs, Full, Accepted}
+use Rattle.history.specs.declared.Reply.the-variants.{Score as Turned, Lengths, State, Unlawful, Bytes, Word, Differs, Full, Last, Accepted}
 use Rattle.history.specs.ByForm.{byForm}
 
 pub data Proper (score : List ℕ) (n : ℕ) : Reply → Type 0 where
@@ -31,6 +31,7 @@ pub data Proper (score : List ℕ) (n : ℕ) : Reply → Type 0 where
   word : (k : ℕ) → k ≤ n → Proper score n (Word k)
   differs : (k : ℕ) → k ≤ n → Proper score n (Differs k)
   full : (k : ℕ) → k ≤ n → Proper score n (Full k)
+  last : (k : ℕ) → k ≤ n → Proper score n (Last k)
   accepted : (k : ℕ) → k ≤ n → Proper score n (Accepted k)
 
 module _ {E : Type 0} (reply : E → Reply) (score : List ℕ) (n : ℕ) where

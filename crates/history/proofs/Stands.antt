@@ -2,14 +2,14 @@
 --     Stands             bytes stand for a lawful state, copies aside
 --     written-stands     so do the bytes written for one
 --     instant-entry      an instant from such bytes has the words of the instant from the state
---     after-bytes        and leaves its bytes
+--     after-state        and leaves its agents
 --     next-lawful        the state after it is lawful
 --     instant-stands     the bytes after it stand for the state after it
 --     instant-lawful     and have no fault
 use mathlib.Core.Path.{_≡_, subst}
 use mathlib.Core.Bool.{false}
 use mathlib.Core.List.{List}
-use Prim.Native.Nat.{ℕ, _≤_}
+use Prim.Native.Nat.{ℕ, suc, _≤_}
 use native.Mathlib.Omega.{arith}
 use lib.ListN.{length}
 use Rattle.laws.proofs.Sets.{same-refl}
@@ -18,8 +18,9 @@ use Rattle.tcc.specs.Instant.{State, running, aborted, answer, after}
 use Rattle.tcc.proofs.SameAnswer.{SameAnswer}
 use Rattle.format.specs.Decode.{sizes, decode}
 use Rattle.format.proofs.Decode.{sizes-few}
-use Rattle.lent.specs.States.{stateFault, stateOf, asBytes, LawfulState, SameState}
-use Rattle.lent.proofs.Round.{state-round, asBytes-same, lawful-bytes}
+use Rattle.lent.specs.States.{stateFault, stateOf, asBytes, instantNumber, numbered, nextBytes, LawfulState, SameState}
+use Rattle.lent.proofs.Round.{asBytes-same, lawful-bytes}
+use Rattle.lent.proofs.Numbered.{numbered-same, numbered-round}
 use Rattle.lent.proofs.SameState.{answer-same, after-same}
 use Rattle.standing.proofs.Inside.{answer-inside, after-lawful}
 use Rattle.journal.specs.History.{entry, Rising}
@@ -37,8 +38,8 @@ module _ (score : List ℕ) (law : Lawful (decode score)) (counted : length (dec
     pub same : SameState (stateOf state) st
     pub lawful : LawfulState (length (decode score .agents)) st
 
-  pub written-stands : (st : State) → LawfulState (length (decode score .agents)) st → Stands (asBytes st) st
-  written-stands st h = record { same = state-round st (lawful-more (length (decode score .agents)) 1024 st (law .most-agents) h); lawful = h }
+  pub written-stands : (st : State) (n : ℕ) → LawfulState (length (decode score .agents)) st → Stands (numbered st n) st
+  written-stands st n h = record { same = numbered-round st n (lawful-more (length (decode score .agents)) 1024 st (law .most-agents) h); lawful = h }
 
   module _ {state : List ℕ} {st : State} (stands : Stands state st) (inputs : List ℕ) where
     instant-same : SameAnswer (answerIn score state inputs) (answer (decode score) st inputs)
@@ -48,17 +49,19 @@ module _ (score : List ℕ) (law : Lawful (decode score)) (counted : length (dec
     pub instant-entry : entry (decode score) inputs (answerIn score state inputs) ≡ entry (decode score) inputs (answer (decode score) st inputs)
     instant-entry = entry-same (decode score) inputs instant-same
 
-    pub after-bytes : asBytes (after (answerIn score state inputs)) ≡ asBytes (after (answer (decode score) st inputs))
-    after-bytes = let s = answerIn score state inputs in let t = answer (decode score) st inputs in asBytes-same (after s) (after t) (after-same s t instant-same)
+    pub after-state : SameState (after (answerIn score state inputs)) (after (answer (decode score) st inputs))
+    after-state = after-same (answerIn score state inputs) (answer (decode score) st inputs) instant-same
 
     module _ (rising : Rising (decode score .tokens) inputs) where
       pub next-lawful : LawfulState (length (decode score .agents)) (after (answer (decode score) st inputs))
       next-lawful = after-lawful (decode score) (answer (decode score) st inputs) (length (decode score .agents)) (omega arith) (answer-inside (decode score) st inputs law (stands .lawful) (rising-below rising))
 
-      pub instant-stands : Stands (asBytes (after (answerIn score state inputs))) (after (answer (decode score) st inputs))
-      instant-stands = rw after-bytes (written-stands (after (answer (decode score) st inputs)) next-lawful)
+      pub instant-stands : Stands (nextBytes state (answerIn score state inputs)) (after (answer (decode score) st inputs))
+      instant-stands =
+          let st′ = after (answer (decode score) st inputs) in
+          rw (numbered-same (after (answerIn score state inputs)) st′ (suc (instantNumber state)) after-state) (written-stands st′ (suc (instantNumber state)) next-lawful)
 
       pub instant-lawful : stateFault (sizes score .agents) (asBytes (after (answerIn score state inputs))) ≡ false
       instant-lawful =
           let st′ = after (answer (decode score) st inputs) in
-          rw after-bytes (lawful-bytes (sizes score .agents) (sizes-few score .1) st′ (subst (λ n. LawfulState n st′) counted next-lawful))
+          rw (asBytes-same (after (answerIn score state inputs)) st′ after-state) (lawful-bytes (sizes score .agents) (sizes-few score .1) st′ (subst (λ n. LawfulState n st′) counted next-lawful))

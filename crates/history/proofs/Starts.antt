@@ -18,8 +18,9 @@ use Rattle.format.specs.Playable.{Playable}
 use Rattle.format.proofs.Decode.{playable-agents, sizes-few}
 use Rattle.store.specs.Flags.{setOf, flagsOf}
 use Rattle.store.proofs.Flags.{set-here, set-cases, setOf-none, flags-settled}
-use Rattle.lent.specs.States.{stateOf, asBytes, LawfulState}
-use Rattle.lent.proofs.Round.{state-round, asBytes-same, lawful-bytes, faultless-lawful}
+use Rattle.lent.specs.States.{stateOf, asBytes, numbered, startBytes, LawfulState}
+use Rattle.lent.proofs.Round.{state-round, lawful-bytes, faultless-lawful}
+use Rattle.lent.proofs.Numbered.{numbered-same}
 use Rattle.standing.specs.Standing.{stateIn}
 use Rattle.history.proofs.Steps.{same-running}
 
@@ -49,5 +50,5 @@ module _ (score : List ℕ) (p : Playable score) where
   pub start-lawful : LawfulState (sizes score .agents) (stateOf (asBytes (startState (decode score))))
   start-lawful = faultless-lawful (sizes score .agents) (asBytes (startState (decode score))) (lawful-bytes (sizes score .agents) (sizes-few score .1) (startState (decode score)) (root-lawful (sizes score .agents) (omega arith)))
 
-  pub start-bytes : asBytes (stateOf (asBytes (startState (decode score)))) ≡ asBytes (startState (decode score))
-  start-bytes = asBytes-same _ (startState (decode score)) (state-round (startState (decode score)) (root-lawful 1024 (sizes-few score .1)))
+  pub start-bytes : numbered (stateOf (asBytes (startState (decode score)))) 0 ≡ startBytes (decode score)
+  start-bytes = numbered-same _ (startState (decode score)) 0 (state-round (startState (decode score)) (root-lawful 1024 (sizes-few score .1)))

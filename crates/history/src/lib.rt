@@ -7,7 +7,7 @@ ghost use Rattle.format.specs.Decode.{sizes, decode};
 ghost use Rattle.format.specs.Playable.{Playable};
 ghost use Rattle.store.specs.Flags.{setOf};
 ghost use Rattle.lent.specs.Lengths.{stateBytes, noScratch};
-ghost use Rattle.lent.specs.States.{stateOf, asBytes, LawfulState};
+ghost use Rattle.lent.specs.States.{stateOf, asBytes, startBytes, LawfulState};
 ghost use Rattle.standing.specs.Standing.{stateIn};
 ghost use Rattle.history.specs.Stepped.{Stepped};
 use format::Sizes;
@@ -33,6 +33,8 @@ pub enum Reply {
     Differs(usize),
     // The next instant's words exceed the journal bytes left: the instants written.
     Full(usize),
+    // An instant is wanted at the last number: the instants written.
+    Last(usize),
     // The instants written, or read.
     Accepted(usize),
 }
@@ -97,9 +99,9 @@ pub fn start(score: &[u8], head: Sizes) -> Standing
 pub fn write_start(score: &[u8], state: &mut [u8])
     requires { ⌜ Playable (now score) ⌝ }
     requires { ⌜ length (now state) ≡ stateBytes ⌝ }
-    ensures { λ _. ⌜ now (state .exit) ≡ asBytes (startState (decode (now (score .entry)))) ⌝ }
+    ensures { λ _. ⌜ now (state .exit) ≡ startBytes (decode (now (score .entry))) ⌝ }
 {
     let head = format::sizes_of(words::word_at(score, 0));
     let standing = start(score, head);
-    standing::write_standing(state, head.agents, standing);
+    standing::write_standing(state, head.agents, standing, 0);
 }

@@ -1,11 +1,12 @@
 -- The call's exits, one for each reply.
---     turned, lengths, state, input, settled
+--     turned, lengths, state, input, last, settled
 --     handed           an answer handed over leaves as it says
 --     Lengths-are      the five lengths, where none is wrong
-use mathlib.Core.Path.{_≡_, refl, ap, _∙_}
+use mathlib.Core.Path.{_≡_, refl, sym, ap, ap₂, _∙_}
 use mathlib.Core.Bool.{true, false, cond, not}
-use mathlib.Core.List.{List, _∷_}
-use Prim.Native.Nat.{ℕ, _≤_}
+use mathlib.Core.List.{List, [], _∷_, _++_}
+use Prim.Native.Nat.{ℕ, suc, _≤_}
+use borrow.Author.Tests.{eq-eqb, ne-eqb}
 use lib.Dec.{eqb}
 use lib.ListN.{length}
 use Rattle.laws.proofs.Booleans.{cond-true, cond-false, neither}
@@ -22,13 +23,13 @@ use Rattle.engine.specs.declared.Outcome.{Outcome}
 use Rattle.engine.specs.Outcome.{outcomeOf}
 use Rattle.bits.specs.Bits.{bytesOf}
 use Rattle.lent.specs.Lengths.{stateBytes, mapBytes, scratchBytes, noScratch}
-use Rattle.lent.specs.States.{stateFault, stateOf, asBytes, runningWord, abortedWord, agentWords}
+use Rattle.lent.specs.States.{stateFault, stateOf, asBytes, runningWord, abortedWord, agentWords, instantNumber, nextBytes, lastNumber}
 use Rattle.lent.proofs.Lengths.{right}
 use Rattle.maps.specs.Maps.{tokensIn, mapOf}
 use Rattle.standing.proofs.Inside.{Inside}
 use Rattle.buffers.specs.HandedOver.{HandedOver}
 use Rattle.buffers.proofs.Written.{state-written, store-written, output-written}
-use Rattle.instant.specs.declared.Reply.the-variants.{Score as Turned, Lengths, State, Input, Settled}
+use Rattle.instant.specs.declared.Reply.the-variants.{Score as Turned, Lengths, State, Input, Last, Settled}
 use Rattle.instant.specs.InstantCall.{Lent, Exit, lengthFault, tokenFault, kept, answered, exit, lent, played}
 
 module _ (score given : List ℕ) (l : Lent) where
@@ -51,23 +52,32 @@ module _ (score given : List ℕ) (l : Lent) where
         unfolding exit
         input e = passed score accepted _ (cond-false _ long (cond-false _ lawful (cond-true _ e refl)))
 
-        pub settled : tokenFault score given ≡ false → (a : Answer) → a ≡ answer (decode score) (stateOf (l .state)) (tokensIn given) →
-            stateFault (sizes score .agents) (asBytes (after a)) ≡ false → answered (decode score) a ≡ exit score given l
-        unfolding exit
-        settled e a is n = passed score accepted _ (cond-false _ long (cond-false _ lawful (cond-false _ e (settles ∙ ap (played score l) is))))
-          where
-            settles : answered (decode score) a ≡ played score l a
-            settles = cond-false _ n refl
+        module _ (known : tokenFault score given ≡ false) where
+          pub last : {n : ℕ} → n ≡ instantNumber (l .state) → n ≡ lastNumber → kept l Last ≡ exit score given l
+          unfolding exit
+          last is at = passed score accepted _ (cond-false _ long (cond-false _ lawful (cond-false _ known (cond-true _ (eq-eqb (instantNumber (l .state)) lastNumber (sym is ∙ at)) refl))))
+
+          pub settled : {n : ℕ} → n ≡ instantNumber (l .state) → (n ≡ lastNumber → ⊥) → (a : Answer) → a ≡ answer (decode score) (stateOf (l .state)) (tokensIn given) →
+              stateFault (sizes score .agents) (asBytes (after a)) ≡ false → answered (decode score) (l .state) a ≡ exit score given l
+          unfolding exit
+          settled is below a e n =
+              passed score accepted _ (cond-false _ long (cond-false _ lawful (cond-false _ known (cond-false _ (ne-eqb (instantNumber (l .state)) lastNumber (λ at. below (is ∙ at))) (settles ∙ ap (played score l) e)))))
+            where
+              settles : answered (decode score) (l .state) a ≡ played score l a
+              settles = cond-false _ n refl
 
 -- what handing an outcome over leaves, where it is an answer's
 module _ (sc : Score) (a : Answer) (few : length (sc .agents) ≤ 1024) (known : sc .tokens ≤ 256) (inside : Inside sc a) {o : Outcome} (is : o ≡ outcomeOf a)
-    {state store sent : List ℕ} (h : HandedOver sc o state store sent) where
-  pub handed : {scratch : List ℕ} → scratch ≡ noScratch → {e : Exit} → answered sc a ≡ e → _≡_ {A = Exit} (record { lent = lent state store sent scratch; reply = Settled (o .status) (o .count) }) e
+    {number : ℕ} {state store sent : List ℕ} (h : HandedOver sc o number state store sent) where
+  pub handed : (before : List ℕ) → number ≡ suc (instantNumber before) → {scratch : List ℕ} → scratch ≡ noScratch → {e : Exit} → answered sc before a ≡ e → _≡_ {A = Exit} (record { lent = lent state store sent scratch; reply = Settled (o .status) (o .count) }) e
   unfolding outcomeOf
-  handed z leaves = (λ i. record { lent = lent (state-is i) (store-is i) (sent-is i) (z i); reply = Settled (is i .status) (is i .count) }) ∙ leaves
+  handed before next z leaves = (λ i. record { lent = lent (state-is i) (store-is i) (sent-is i) (z i); reply = Settled (is i .status) (is i .count) }) ∙ leaves
     where
-      state-is : state ≡ asBytes (after a)
-      state-is = h .state-is ∙ ap (λ x. bytesOf (cond (eqb (x .status) 2) abortedWord runningWord ∷ agentWords (setOf (x .awake)))) is ∙ state-written sc a few inside
+      state-is : state ≡ nextBytes before a
+      state-is =
+          h .state-is
+          ∙ ap₂ (λ x n. bytesOf ((cond (eqb (x .status) 2) abortedWord runningWord ∷ agentWords (setOf (x .awake))) ++ n ∷ [])) is next
+          ∙ state-written sc a (suc (instantNumber before)) few inside
 
       store-is : store ≡ mapOf (a .store)
       store-is = h .store-is ∙ ap (λ x. mapOf (setOf (x .store))) is ∙ store-written sc a known inside

@@ -1,4 +1,5 @@
--- What a call of the instant does with what it is lent: numbers 1 to 11 of the table, in their order.
+-- What a call of the instant does with what it is lent: numbers 1 to 10 of the table, in their order, 18 and 11. "18, an
+-- instant is wanted at 4,294,967,295, after 10; a lone instant leaves all as it was" (W7).
 --     Lent             the buffers that the call may write: state, store map, output map, scratch
 --     Exit             what they hold afterwards, and the reply
 --     lengthFault      number 8
@@ -20,10 +21,10 @@ use Rattle.format.specs.Decode.{sizes, decode}
 use Rattle.verdicts.specs.Verdicts.{numberOf}
 use Rattle.scorefile.specs.Check.{verdict}
 use Rattle.lent.specs.Lengths.{stateBytes, mapBytes, scratchBytes, noScratch}
-use Rattle.lent.specs.States.{stateFault, stateOf, asBytes}
+use Rattle.lent.specs.States.{stateFault, stateOf, asBytes, nextBytes, atLast}
 use Rattle.maps.specs.Maps.{tokensIn, mapOf}
 use Rattle.instant.specs.declared.Reply.{Reply}
-use Rattle.instant.specs.declared.Reply.the-variants.{Score as Turned, Lengths, State, Input, Next, Settled}
+use Rattle.instant.specs.declared.Reply.the-variants.{Score as Turned, Lengths, State, Input, Last, Next, Settled}
 
 pub record Lent : Type 0 where
   pub state : List ℕ
@@ -52,16 +53,16 @@ kept l r = record { lent = l; reply = r }
 abbrev pub cleared : Lent → Reply → Exit
 cleared l r = record { lent = lent (l .state) (l .store) (l .output) noScratch; reply = r }
 
-abbrev pub answered : Score → Answer → Exit
-answered sc a =
+abbrev pub answered : Score → List ℕ → Answer → Exit
+answered sc state a =
     record {
-      lent = lent (asBytes (after a)) (mapOf (a .store)) (mapOf (output sc (a .status) (a .store))) noScratch;
+      lent = lent (nextBytes state a) (mapOf (a .store)) (mapOf (output sc (a .status) (a .store))) noScratch;
       reply = Settled (a .status) (count a);
     }
 
--- once 1 to 10 have been tried
+-- once 1 to 10 and 18 have been tried
 abbrev pub played : List ℕ → Lent → Answer → Exit
-played score l a = cond (stateFault (sizes score .agents) (asBytes (after a))) (cleared l Next) (answered (decode score) a)
+played score l a = cond (stateFault (sizes score .agents) (asBytes (after a))) (cleared l Next) (answered (decode score) (l .state) a)
 
 unfoldable pub exit : List ℕ → List ℕ → Lent → Exit
 exit score input l =
@@ -69,7 +70,8 @@ exit score input l =
     (cond (lengthFault input l) (kept l Lengths)
     (cond (stateFault (sizes score .agents) (l .state)) (kept l State)
     (cond (tokenFault score input) (kept l Input)
-    (played score l (answer (decode score) (stateOf (l .state)) (tokensIn input))))))
+    (cond (atLast (l .state)) (kept l Last)
+    (played score l (answer (decode score) (stateOf (l .state)) (tokensIn input)))))))
 
 -- the call's contract: over the score, the input, the buffers before and after, and the reply
 pub record InstantCall (score input : List ℕ) (before after : Lent) (reply : Reply) : Type 0 where

@@ -23,6 +23,8 @@ pub enum Reply {
     State,
     // The input names a token that the score does not have.
     Input,
+    // An instant is wanted at the last number.
+    Last,
     // The next state would not be one of the score's.
     Next,
     // Answered: the status and the count.
@@ -61,13 +63,17 @@ pub fn call(
     if bits::any_from(&inputs, head.tokens) {
         return Reply::Input;
     }
+    let number = lent::number_in(state);
+    if number == lent::LAST_NUMBER {
+        return Reply::Last;
+    }
     bits::clear(scratch);
     let outcome = answer_in(score, head, state, inputs, scratch);
     let awake = outcome.awake;
     if bits::any_from(&awake, head.agents) {
         return Reply::Next;
     }
-    buffers::hand_over(score, head, outcome, state, store, output);
+    buffers::hand_over(score, head, outcome, number + 1, state, store, output);
     Reply::Settled(outcome.status, outcome.count)
 }
 

@@ -7,19 +7,22 @@
 --     first-formed     its words are as the form asks
 --     checking-more    one instant more
 --     checking-unlawful, checking-differs     an instant that ends the check
-use mathlib.Core.Path.{_≡_, refl, sym, ap, subst⁻¹, _∙_}
-use mathlib.Core.Bool.{Bool, true, false, cond}
+use mathlib.Core.Path.{_≡_, refl, sym, ap, ap₂, subst⁻¹, _∙_}
+use mathlib.Core.Bool.{Bool, true, false, cond, not, _&&_, _||_}
 use mathlib.Core.List.{List, List·Memᴰ, List·Memᴰ·head, List·Memᴰ·tail}
 use Prim.Native.Nat.{ℕ, suc, _+_, _^_, _<_, _≤_}
 use native.Mathlib.Numerals.{add-one}
 use native.Mathlib.Omega.{arith}
-use borrow.Author.Tests.{not-true, not-false}
+use borrow.Author.Tests.{eqb-false}
+use lib.Dec.{eqb}
 use lib.ListN.{length, getD, drop, length-drop}
+use Rattle.laws.proofs.Booleans.{neither}
 use Rattle.tcc.specs.Instant.{startState, Answer, answer, after}
 use Rattle.words.specs.Word.{words}
 use Rattle.format.specs.Decode.{sizes, decode}
 use Rattle.format.specs.Playable.{Playable}
-use Rattle.lent.specs.States.{stateFault, stateOf, asBytes, LawfulState}
+use Rattle.lent.specs.States.{stateFault, stateOf, asBytes, instantNumber, startBytes, nextBytes, lastNumber, LawfulState}
+use Rattle.lent.proofs.Numbered.{numbered-state, number-round}
 use Rattle.standing.specs.declared.Standing.{Standing}
 use Rattle.standing.specs.Standing.{stateIn}
 use Rattle.form.specs.declared.Form.the-variants.{Good}
@@ -44,6 +47,8 @@ pub record Checking (score journal : List ℕ) (stands : Standing) (n at : ℕ) 
   pub state : List ℕ
   pub whole : checked score journal ≡ checkFrom score state n (instantsIn (words (drop at journal)))
   pub stands-for : stateOf state ≡ stateIn stands
+  pub number-is : instantNumber state ≡ n
+  pub few : n ≤ lastNumber
   pub lawful : LawfulState (sizes score .agents) (stateIn stands)
   pub counted : n ≤ at
   pub reading : Reading (sizes score .tokens) journal at
@@ -52,9 +57,11 @@ pub record Checking (score journal : List ℕ) (stands : Standing) (n at : ℕ) 
 pub checking-none : (score journal : List ℕ) (stands : Standing) → Playable score → formOf true (sizes score .tokens) journal ≡ Good → ((i : ℕ) → getD journal i 0 < 2 ^ 8) →
     stateIn stands ≡ stateOf (asBytes (startState (decode score))) → Checking score journal stands 0 0
 checking-none score journal stands p good small e = record {
-  state = asBytes (startState (decode score));
+  state = startBytes (decode score);
   whole = refl;
-  stands-for = sym e;
+  stands-for = numbered-state (startState (decode score)) 0 ∙ sym e;
+  number-is = number-round (startState (decode score)) 0 (omega arith);
+  few = omega arith;
   lawful = subst⁻¹ (LawfulState (sizes score .agents)) e (start-lawful score p);
   counted = omega arith;
   reading = reading-none true (sizes score .tokens) journal good;
@@ -81,21 +88,21 @@ module _ {score journal : List ℕ} {stands : Standing} {n at : ℕ} {here : Lis
   now = answer (decode score) (stateIn stands) (inputsIn (words here))
 
   abbrev right : Bool
-  right = same (words here) (entry (decode score) (inputsIn (words here)) now)
+  right = not (eqb n lastNumber) && same (words here) (entry (decode score) (inputsIn (words here)) now)
 
   abbrev later : Reply
-  later = checkFrom score (asBytes (after now)) (suc n) (instantsIn (words (drop (at + length here) journal)))
+  later = checkFrom score (nextBytes (t .checking .state) now) (suc n) (instantsIn (words (drop (at + length here) journal)))
 
   from-here : checked score journal ≡ cond (stateFault (sizes score .agents) (asBytes (after now))) Unlawful (cond right later (Differs n))
   unfolding checkFrom answerIn
   from-here =
       t .checking .whole ∙ ap (checkFrom score (t .checking .state) n) (next .instants)
-      ∙ ap
-      (λ st.
+      ∙ ap₂
+      (λ st m.
       let x = answer (decode score) st (inputsIn (words here)) in
       cond (stateFault (sizes score .agents) (asBytes (after x))) Unlawful
-      (cond (same (words here) (entry (decode score) (inputsIn (words here)) x)) (checkFrom score (asBytes (after x)) (suc n) (instantsIn (words (drop (at + length here) journal)))) (Differs n)))
-      (t .checking .stands-for)
+      (cond (not (eqb m lastNumber) && same (words here) (entry (decode score) (inputsIn (words here)) x)) (checkFrom score (nextBytes (t .checking .state) x) (suc n) (instantsIn (words (drop (at + length here) journal)))) (Differs n)))
+      (t .checking .stands-for) (t .checking .number-is)
 
   module _ (c : Checked) (h : Held score now (words here) c) where
     by-fault : (b : Bool) → c .unlawful ≡ b → checked score journal ≡ cond b Unlawful (cond right later (Differs n))
@@ -104,19 +111,33 @@ module _ {score journal : List ℕ} {stands : Standing} {n at : ℕ} {here : Lis
     pub checking-unlawful : c .unlawful ≡ true → Unlawful ≡ checked score journal
     checking-unlawful u = sym (by-fault true u)
 
-    pub checking-differs : c .unlawful ≡ false → c .differs ≡ true → Differs n ≡ checked score journal
-    checking-differs u d = sym (by-fault false u ∙ ap (λ x. cond x later (Differs n)) (not-true right (sym (h .differs-is) ∙ d)))
+    right-is : (x : Bool) → (c .differs || eqb n lastNumber) ≡ x → right ≡ not x
+    right-is x e = go _ (eqb n lastNumber) (ap (λ d. d || eqb n lastNumber) (sym (h .differs-is)) ∙ e)
+      where
+        go : (a b : Bool) → (not a || b) ≡ x → (not b && a) ≡ not x
+        go true true e = ap not e
+        go true false e = ap not e
+        go false true e = ap not e
+        go false false e = ap not e
 
-    pub checking-more : c .unlawful ≡ false → c .differs ≡ false → Checking score journal (c .standing) (n + 1) (at + length here)
+    pub checking-differs : c .unlawful ≡ false → (c .differs || eqb n lastNumber) ≡ true → Differs n ≡ checked score journal
+    checking-differs u d = sym (by-fault false u ∙ ap (λ x. cond x later (Differs n)) (right-is true d))
+
+    pub checking-more : c .unlawful ≡ false → (c .differs || eqb n lastNumber) ≡ false → Checking score journal (c .standing) (n + 1) (at + length here)
     checking-more u d = record {
-      state = asBytes (after now);
+      state = nextBytes (t .checking .state) now;
       whole =
           by-fault false u
-          ∙ ap (λ x. cond x later (Differs n)) (not-false right (sym (h .differs-is) ∙ d))
-          ∙ ap (λ k. checkFrom score (asBytes (after now)) k (instantsIn (words (drop (at + length here) journal)))) (sym (add-one n));
-      stands-for = sym (h .stands);
+          ∙ ap (λ x. cond x later (Differs n)) (right-is false d)
+          ∙ ap (λ k. checkFrom score (nextBytes (t .checking .state) now) k (instantsIn (words (drop (at + length here) journal)))) (sym (add-one n));
+      stands-for = numbered-state (after now) (suc (instantNumber (t .checking .state))) ∙ sym (h .stands);
+      number-is = number-round (after now) (suc (instantNumber (t .checking .state))) (omega (arith, below, t .checking .number-is)) ∙ omega (arith, t .checking .number-is);
+      few = omega (arith, below);
       lawful = h .lawful;
       counted = omega (arith, next .some, t .checking .counted);
       reading = next .follows;
       formed = λ ws m. t .checking .formed ws (subst⁻¹ (List·Memᴰ ws) (next .instants) (List·Memᴰ·tail m));
     }
+      where
+        below : n < lastNumber
+        below = let e : n ≡ lastNumber → ⊥ = eqb-false n lastNumber (neither (c .differs) (eqb n lastNumber) d .1) in omega (arith, t .checking .few)

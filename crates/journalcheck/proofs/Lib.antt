@@ -4,3 +4,4 @@ pub mod Holds
 pub mod Checks
 pub mod CheckExits
 pub mod Replies
+pub mod Aside

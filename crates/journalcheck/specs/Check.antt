@@ -2,14 +2,15 @@
 -- left.
 --     same           words are the same
 --     checkFrom      a journal check, from a state, where so many instants have been read: 11, 14 at the first instant
---                    that is not what the run writes, or accepted with the instants read
-use mathlib.Core.Bool.{Bool, true, false, cond, _&&_}
+--                    that is not what the run writes, or accepted with the instants read. A run writes no instant at the
+--                    last number: "a journal check answers 14 there" (W7)
+use mathlib.Core.Bool.{Bool, true, false, cond, not, _&&_}
 use mathlib.Core.List.{List, [], _∷_}
 use Prim.Native.Nat.{ℕ, suc}
 use lib.Dec.{eqb}
 use Rattle.tcc.specs.Instant.{after}
 use Rattle.format.specs.Decode.{sizes, decode}
-use Rattle.lent.specs.States.{stateFault, asBytes}
+use Rattle.lent.specs.States.{stateFault, asBytes, nextBytes, atLast}
 use Rattle.parts.specs.Instants.{inputsIn}
 use Rattle.journal.specs.History.{entry}
 use Rattle.history.specs.declared.Reply.{Reply}
@@ -26,6 +27,6 @@ unfoldable pub checkFrom : List ℕ → List ℕ → ℕ → List (List ℕ) →
 checkFrom score state read [] = Accepted read
 checkFrom score state read (ws ∷ more) =
     cond (stateFault (sizes score .agents) (asBytes (after (answerIn score state (inputsIn ws))))) Unlawful
-    (cond (same ws (entry (decode score) (inputsIn ws) (answerIn score state (inputsIn ws))))
-    (checkFrom score (asBytes (after (answerIn score state (inputsIn ws)))) (suc read) more)
+    (cond (not (atLast state) && same ws (entry (decode score) (inputsIn ws) (answerIn score state (inputsIn ws))))
+    (checkFrom score (nextBytes state (answerIn score state (inputsIn ws))) (suc read) more)
     (Differs read))

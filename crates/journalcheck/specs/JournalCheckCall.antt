@@ -11,13 +11,12 @@ use mathlib.Core.List.{List}
 use Prim.Native.Nat.{ℕ}
 use lib.Dec.{eqb}
 use lib.ListN.{length}
-use Rattle.tcc.specs.Instant.{startState}
 use Rattle.words.specs.Word.{words}
 use Rattle.format.specs.Decode.{sizes, decode}
 use Rattle.verdicts.specs.Verdicts.{numberOf}
 use Rattle.scorefile.specs.Check.{verdict}
 use Rattle.lent.specs.Lengths.{scratchBytes, noScratch}
-use Rattle.lent.specs.States.{asBytes}
+use Rattle.lent.specs.States.{startBytes}
 use Rattle.form.specs.Form.{formOf}
 use Rattle.parts.specs.Instants.{instantsIn}
 use Rattle.history.specs.declared.Reply.{Reply}
@@ -33,7 +32,7 @@ abbrev pub left : List ℕ → Reply → Exit
 left scratch r = record { scratch = scratch; reply = r }
 
 abbrev pub checked : List ℕ → List ℕ → Reply
-checked score journal = checkFrom score (asBytes (startState (decode score))) 0 (instantsIn (words journal))
+checked score journal = checkFrom score (startBytes (decode score)) 0 (instantsIn (words journal))
 
 unfoldable pub exit : List ℕ → List ℕ → List ℕ → Exit
 exit score journal scratch =

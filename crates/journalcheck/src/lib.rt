@@ -73,7 +73,7 @@ fn check_list(score: &[u8], head: Sizes, journal: &[u8], scratch: &mut [u8]) -> 
         if checked.unlawful {
             return Reply::Unlawful;
         }
-        if checked.differs {
+        if checked.differs | (instants == lent::LAST_NUMBER as usize) {
             return Reply::Differs(instants);
         }
         stands = checked.standing;

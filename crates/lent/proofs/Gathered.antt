@@ -3,14 +3,14 @@
 --     parts-length          so many parts are gathered as are asked for
 --     from-set              gathered from the flags of a set, or from the set
 --     stateWritten          a buffer with a first word and k words of agents written
---     state-first, state-more, state-all     written word by word
+--     state-first, state-more, state-all     written word by word, the number last
 use mathlib.Core.Path.{_≡_, sym, ap, ap₂, _∙_}
 use mathlib.Core.Bool.{Bool, false}
 use mathlib.Core.List.{List, [], _∷_, _++_, map}
 use Prim.Native.Nat.{ℕ, _+_, _*_}
 use native.Mathlib.Numerals.{add-one}
 use native.Mathlib.Omega.{arith}
-use lib.ListN.{length, getD, take, drop, length-map}
+use lib.ListN.{length, getD, take, drop, length-map, length-append}
 use Rattle.laws.specs.Sets.{below, has}
 use Rattle.laws.proofs.Lists.{map-snoc, map-same}
 use Rattle.laws.proofs.Sets.{below-length}
@@ -49,8 +49,15 @@ module _ (first : ℕ) (awake : List Bool) where
       ∙ ap (λ l. Written (first ∷ l) s) (sym (map-snoc (gathered 32 awake) (below k) k))
       ∙ ap (λ n. Written (first ∷ map (gathered 32 awake) (below n)) s) (sym (add-one k))
 
-  pub state-all : (s : List ℕ) → length s ≡ stateBytes → stateWritten first awake 32 s ≡ bytesOf (first ∷ agentWords (setOf awake))
+  pub state-all : (number : ℕ) (s t u : List ℕ) → length s ≡ stateBytes → t ≡ stateWritten first awake 32 s
+      → u ≡ take (4 * 33) t ++ bytesOf (number ∷ []) ++ drop (4 * 33 + 4) t → u ≡ bytesOf ((first ∷ agentWords (setOf awake)) ++ number ∷ [])
   unfolding stateWritten agentWords
-  state-all s h =
-      written-all (first ∷ map (gathered 32 awake) (below 32)) s (omega (arith, parts-length 32 32 awake))
-      ∙ ap (λ l. bytesOf (first ∷ l)) (map-same (gathered 32 awake) (λ k. bitsValue (λ j. has (32 * k + j) (setOf awake)) 32) (below 32) (from-set 32 awake))
+  state-all number s t u h e p =
+      p
+      ∙ ap (λ x. take (4 * 33) x ++ bytesOf (number ∷ []) ++ drop (4 * 33 + 4) x) e
+      ∙ written-more ws number 33 s (omega (arith, parts-length 32 32 awake))
+      ∙ written-all (ws ++ number ∷ []) s (omega (arith, parts-length 32 32 awake, length-append ws (number ∷ [])))
+      ∙ ap (λ l. bytesOf ((first ∷ l) ++ number ∷ [])) (map-same (gathered 32 awake) (λ k. bitsValue (λ j. has (32 * k + j) (setOf awake)) 32) (below 32) (from-set 32 awake))
+    where
+      ws : List ℕ
+      ws = first ∷ map (gathered 32 awake) (below 32)

@@ -4,3 +4,4 @@ pub mod Faults
 pub mod Gathered
 pub mod Round
 pub mod SameState
+pub mod Numbered

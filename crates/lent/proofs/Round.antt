@@ -1,6 +1,7 @@
 -- States, read back from the bytes that they are written as.
 --     words-bytes        the words of the bytes of words are those words
---     asBytes-length     the bytes of a state
+--     stateWords-length, stateWords-fit     the words of a state
+--     asBytes-length     its bytes
 --     asBytes-same       the same agents make the same bytes
 --     agents-round       the agents awake in the bytes written for a set are the set's
 --     state-round        bytes written for a state stand for it
@@ -25,7 +26,6 @@ use Rattle.words.specs.Word.{joined, words, wordAt}
 use Rattle.bits.specs.Bits.{bitAt, bitsValue, bytesOf}
 use Rattle.bits.proofs.Bits.{bitsValue-below, bitsValue-same, bitsValue-bit}
 use Rattle.bits.proofs.Bytes.{bytesOf-length}
-use Rattle.lent.specs.Lengths.{stateBytes}
 use Rattle.lent.specs.States.{runningWord, abortedWord, agentsIn, stateFault, stateOf, agentWords, stateWords, asBytes, LawfulState, SameState}
 use Rattle.lent.proofs.Agents.{awakeIn, agents-within}
 use Rattle.lent.proofs.Faults.{fault-running, fault-aborted}
@@ -95,10 +95,17 @@ module _ (first : ℕ) (fits : first < 2 ^ 32) (l : List ℕ) where
       from : List·Memᴰ i l → List·Memᴰ i (keep (awakeIn s) (below 1024))
       from m = let h : i < 1024 = within i m in keep-kept (awakeIn s) (lt-below 1024 h) (awake-round i h ∙ member-has m)
 
-pub asBytes-length : (st : State) → length (asBytes st) ≡ stateBytes
+pub stateWords-length : (st : State) → length (stateWords st) ≡ 33
+stateWords-length (running l) = ap suc (agentWords-length l)
+stateWords-length aborted = ap suc (agentWords-length [])
+
+pub stateWords-fit : (st : State) → Within (λ w. w < 2 ^ 32) (stateWords st)
+stateWords-fit (running l) = on-cons (omega arith) (agentWords-fit l)
+stateWords-fit aborted = on-cons (omega arith) (agentWords-fit [])
+
+pub asBytes-length : (st : State) → length (asBytes st) ≡ 132
 unfolding asBytes
-asBytes-length (running l) = bytesOf-length (stateWords (running l)) ∙ ap (λ n. 4 * suc n) (agentWords-length l)
-asBytes-length aborted = bytesOf-length (stateWords aborted) ∙ ap (λ n. 4 * suc n) (agentWords-length [])
+asBytes-length st = bytesOf-length (stateWords st) ∙ ap (λ n. 4 * n) (stateWords-length st)
 
 pub asBytes-same : (a b : State) → SameState a b → asBytes a ≡ asBytes b
 unfolding asBytes SameState

@@ -1,5 +1,5 @@
--- The lengths in bytes of what the caller lends: "State: 33 words. Input, store and output maps: 32 bytes." "An instant, a
--- run and a journal check shall work in 128 bytes of scratch" (W4).
+-- The lengths in bytes of what the caller lends: a state of 34 words (W7). "Input, store and output maps: 32 bytes." "An
+-- instant, a run and a journal check shall work in 128 bytes of scratch" (W4).
 --     stateBytes, mapBytes, scratchBytes
 --     noScratch                            a scratch that is all zero
 use mathlib.Core.List.{List}
@@ -7,7 +7,7 @@ use Prim.Native.Nat.{ℕ}
 use lib.ListN.{replicate}
 
 abbrev pub stateBytes : ℕ
-stateBytes = 132
+stateBytes = 136
 
 abbrev pub mapBytes : ℕ
 mapBytes = 32

@@ -1,6 +1,6 @@
 ghost use mathlib.Core.Path.{_≡_};
 ghost use mathlib.Core.Bool.{false};
-ghost use mathlib.Core.List.{_∷_};
+ghost use mathlib.Core.List.{[], _∷_, _++_};
 ghost use Prim.Native.Nat.{ℕ, _≤_};
 ghost use lib.ListN.{length, getD};
 ghost use lib.Dec.{leb};
@@ -8,11 +8,11 @@ ghost use Rattle.laws.specs.Sets.{any};
 ghost use Rattle.store.specs.Flags.{setOf, flagsOf};
 ghost use Rattle.bits.specs.Bits.{bytesOf};
 ghost use Rattle.lent.specs.Lengths.{stateBytes};
-ghost use Rattle.lent.specs.States.{agentsIn, stateFault, agentWords};
+ghost use Rattle.lent.specs.States.{agentsIn, stateFault, agentWords, instantNumber};
 use store::Agents;
 
 // The bytes of a state, of a map and of the scratch.
-pub const STATE_BYTES: usize = 132;
+pub const STATE_BYTES: usize = 136;
 
 pub const MAP_BYTES: usize = 32;
 
@@ -22,6 +22,9 @@ pub const SCRATCH_BYTES: usize = 128;
 pub const RUNNING: u32 = 0xF000_0000;
 
 pub const ABORTED: u32 = 0xF000_0001;
+
+// The instant number at which no instant is played.
+pub const LAST_NUMBER: u32 = 0xFFFF_FFFF;
 
 // The agents awake in a state, as flags.
 pub fn read_agents(state: &[u8]) -> Agents
@@ -40,11 +43,19 @@ pub fn read_agents(state: &[u8]) -> Agents
     flags
 }
 
-// Writes a state: its first word, and the agents awake, all of them below `agents`.
-pub fn write_state(state: &mut [u8], first: u32, agents: usize, awake: Agents)
+// How many instants were run since the start, by a state.
+pub fn number_in(state: &[u8]) -> u32
+    requires { ⌜ length (now state) ≡ stateBytes ⌝ }
+    ensures { λ r. ⌜ r ≡ instantNumber (now (state .entry)) ⌝ }
+{
+    words::word_at(state, 33)
+}
+
+// Writes a state: its first word, the agents awake, all of them below `agents`, and its number.
+pub fn write_state(state: &mut [u8], first: u32, agents: usize, awake: Agents, number: u32)
     requires { ⌜ length (now state) ≡ stateBytes ⌝ }
     requires { ⌜ ((i : ℕ) → agents ≤ i → getD awake i false ≡ false) ⌝ }
-    ensures { λ _. ⌜ now (state .exit) ≡ bytesOf (first ∷ agentWords (setOf awake)) ⌝ }
+    ensures { λ _. ⌜ now (state .exit) ≡ bytesOf ((first ∷ agentWords (setOf awake)) ++ number ∷ []) ⌝ }
 {
     bits::put_word(state, 0, first);
     let mut k = 0;
@@ -53,6 +64,7 @@ pub fn write_state(state: &mut [u8], first: u32, agents: usize, awake: Agents)
         bits::put_word(state, 1 + k, w);
         k += 1;
     }
+    bits::put_word(state, 33, number);
 }
 
 // Whether bytes are no state of a score with so many agents.

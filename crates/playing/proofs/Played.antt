@@ -5,11 +5,10 @@ use mathlib.Core.List.{List}
 use Prim.Native.Nat.{ℕ}
 use borrow.Author.Tests.{eqb-true, eqb-false}
 use lib.Dec.{eqb}
-use Rattle.tcc.specs.Instant.{startState}
 use Rattle.format.specs.Decode.{decode}
 use Rattle.verdicts.specs.Verdicts.{numberOf}
 use Rattle.scorefile.specs.Check.{verdict}
-use Rattle.lent.specs.States.{asBytes}
+use Rattle.lent.specs.States.{startBytes}
 use Rattle.lent.specs.Lengths.{noScratch}
 use Rattle.run.specs.RunCall.{Lent, lent, Exit, exit}
 use Rattle.run.proofs.RunExits.{turned}
@@ -18,7 +17,7 @@ use Rattle.answer.specs.Replies.{ofRunReply}
 use Rattle.score.specs.ScoreRun.{ScoreRun}
 use Rattle.playing.specs.Played.{fromStart, Played}
 
-module _ (score inputs state journal : List ℕ) (starts : numberOf (verdict score) ≡ 0 → state ≡ asBytes (startState (decode score))) where
+module _ (score inputs state journal : List ℕ) (starts : numberOf (verdict score) ≡ 0 → state ≡ startBytes (decode score)) where
   abbrev before : Lent
   before = lent state journal noScratch
 

@@ -4,16 +4,15 @@
 use mathlib.Core.Path.{_≡_}
 use mathlib.Core.List.{List}
 use Prim.Native.Nat.{ℕ}
-use Rattle.tcc.specs.Instant.{startState}
 use Rattle.format.specs.Decode.{decode}
-use Rattle.lent.specs.States.{asBytes}
+use Rattle.lent.specs.States.{startBytes}
 use Rattle.lent.specs.Lengths.{noScratch}
 use Rattle.run.specs.RunCall.{Lent, lent}
 use Rattle.answer.specs.Answer.{numberIn}
 use Rattle.score.specs.ScoreRun.{ScoreRun}
 
 abbrev pub fromStart : List ℕ → List ℕ → Lent
-fromStart score journal = lent (asBytes (startState (decode score))) journal noScratch
+fromStart score journal = lent (startBytes (decode score)) journal noScratch
 
 pub record Played (score inputs before after : List ℕ) (number : ℕ) : Type 0 where
   pub left : Lent

@@ -1,11 +1,10 @@
 ghost use mathlib.Core.Path.{_≡_};
 ghost use lib.ListN.{length};
-ghost use Rattle.tcc.specs.Instant.{startState};
 ghost use Rattle.format.specs.Decode.{decode};
 ghost use Rattle.verdicts.specs.Verdicts.{numberOf};
 ghost use Rattle.scorefile.specs.Check.{verdict};
 ghost use Rattle.lent.specs.Lengths.{stateBytes};
-ghost use Rattle.lent.specs.States.{asBytes};
+ghost use Rattle.lent.specs.States.{startBytes};
 ghost use Rattle.answer.specs.Answer.{numberIn};
 ghost use Rattle.playing.specs.Played.{Played};
 
@@ -21,7 +20,7 @@ pub fn play(score: &[u8], inputs: &[u8], journal: &mut [u8]) -> u64
 // The start state, if the score is accepted.
 fn start(score: &[u8]) -> [u8; lent::STATE_BYTES]
     ensures { λ r. ⌜ stateBytes ≡ length r ⌝ }
-    ensures { λ r. ⌜ (numberOf (verdict (now (score .entry))) ≡ 0 → r ≡ asBytes (startState (decode (now (score .entry))))) ⌝ }
+    ensures { λ r. ⌜ (numberOf (verdict (now (score .entry))) ≡ 0 → r ≡ startBytes (decode (now (score .entry)))) ⌝ }
 {
     let mut state = [0u8; lent::STATE_BYTES];
     if verdicts::number_of(scorefile::check(score)) == 0 {

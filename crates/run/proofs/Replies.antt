@@ -13,9 +13,9 @@ use Rattle.lent.specs.States.{stateFault}
 use Rattle.parts.specs.Instants.{instantsIn, inputsIn, inputLists}
 use Rattle.journal.proofs.Counts.{instants-few}
 use Rattle.history.specs.declared.Reply.{Reply}
-use Rattle.history.proofs.Replies.{Proper, unlawful, full, accepted, Replies, by-score, by-lengths, by-state, by-form}
+use Rattle.history.proofs.Replies.{Proper, unlawful, full, last, accepted, Replies, by-score, by-lengths, by-state, by-form}
 use Rattle.runlist.specs.declared.Stop.{Stop}
-use Rattle.runlist.specs.declared.Stop.the-variants.{Not, Next, Room}
+use Rattle.runlist.specs.declared.Stop.the-variants.{Not, Next, Last, Room}
 use Rattle.runlist.specs.Run.{Ran, runFrom}
 use Rattle.runlist.proofs.Counts.{run-few}
 use Rattle.run.specs.RunCall.{Lent, Exit, lengthFault, kept, ending, exit}
@@ -23,6 +23,7 @@ use Rattle.run.specs.RunCall.{Lent, Exit, lengthFault, kept, ending, exi
 ending-proper : (score : List ℕ) (n : ℕ) (why : Stop) (k : ℕ) → k ≤ n → Proper score n (ending why k)
 ending-proper score n Not k h = accepted k h
 ending-proper score n Next k h = unlawful
+ending-proper score n Last k h = last k h
 ending-proper score n Room k h = full k h
 
 pub run-proper : (score inputs : List ℕ) (l : Lent) → Proper score (length inputs / 4) (exit score inputs l .reply)

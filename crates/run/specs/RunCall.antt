@@ -1,4 +1,4 @@
--- What a run does with what it is lent: numbers 1 to 9, 12, 13, then instant by instant 11 and 15.
+-- What a run does with what it is lent: numbers 1 to 9, 12, 13, then instant by instant 11, 18 and 15.
 --     Lent             the buffers that the call may write: state, journal, scratch
 --     Exit             what they hold afterwards, and the reply
 --     lengthFault      number 8
@@ -22,10 +22,10 @@ use Rattle.lent.specs.States.{stateFault}
 use Rattle.form.specs.Form.{formOf}
 use Rattle.parts.specs.Instants.{inputLists}
 use Rattle.history.specs.declared.Reply.{Reply}
-use Rattle.history.specs.declared.Reply.the-variants.{Score as Turned, Lengths, State, Unlawful, Full, Accepted}
+use Rattle.history.specs.declared.Reply.the-variants.{Score as Turned, Lengths, State, Unlawful, Full, Last as Past, Accepted}
 use Rattle.history.specs.ByForm.{byForm}
 use Rattle.runlist.specs.declared.Stop.{Stop}
-use Rattle.runlist.specs.declared.Stop.the-variants.{Not, Next, Room}
+use Rattle.runlist.specs.declared.Stop.the-variants.{Not, Next, Last, Room}
 use Rattle.runlist.specs.Run.{Ran, runFrom}
 
 pub record Lent : Type 0 where
@@ -50,6 +50,7 @@ kept l r = record { lent = l; reply = r }
 abbrev pub ending : Stop → ℕ → Reply
 ending Not n = Accepted n
 ending Next n = Unlawful
+ending Last n = Past n
 ending Room n = Full n
 
 abbrev pub ended : Lent → Ran → Exit

@@ -5,7 +5,7 @@ ghost use lib.ListN.{length};
 ghost use Rattle.format.specs.Decode.{sizes};
 ghost use Rattle.format.specs.Playable.{Playable};
 ghost use Rattle.lent.specs.Lengths.{stateBytes, scratchBytes, noScratch};
-ghost use Rattle.lent.specs.States.{stateFault, asBytes, LawfulState};
+ghost use Rattle.lent.specs.States.{stateFault, numbered, LawfulState};
 ghost use Rattle.standing.specs.Standing.{stateIn};
 ghost use Rattle.form.specs.declared.Form.the-variants.{Good};
 ghost use Rattle.form.specs.Form.{formOf};
@@ -68,7 +68,8 @@ fn run_from(
     ensures { λ _. ⌜ now (scratch .exit) ≡ noScratch ⌝ }
 {
     let standing = standing::standing_in(state);
-    let ended = runlist::run_list(score, head, standing, inputs, journal, scratch);
+    let number = lent::number_in(state);
+    let ended = runlist::run_list(score, head, standing, number, inputs, journal, scratch);
     keep(state, head.agents, ended);
     let stop = ended.stop;
     reply_of(stop, ended.instants)
@@ -88,6 +89,7 @@ fn reply_of(stop: Stop, instants: usize) -> Reply
     match stop {
         Stop::Not => Reply::Accepted(instants),
         Stop::Next => Reply::Unlawful,
+        Stop::Last => Reply::Last(instants),
         Stop::Room => Reply::Full(instants),
     }
 }
@@ -96,11 +98,11 @@ fn reply_of(stop: Stop, instants: usize) -> Reply
 fn keep(state: &mut [u8], agents: usize, ended: Ended)
     requires { ⌜ length (now state) ≡ stateBytes ⌝ }
     requires { ⌜ LawfulState agents (stateIn (ended .standing)) ⌝ }
-    ensures { λ _. ⌜ now (state .exit) ≡ cond (eqb (ended .instants) 0) (now (state .entry)) (asBytes (stateIn (ended .standing))) ⌝ }
+    ensures { λ _. ⌜ now (state .exit) ≡ cond (eqb (ended .instants) 0) (now (state .entry)) (numbered (stateIn (ended .standing)) (ended .number)) ⌝ }
 {
     if ended.instants == 0 {
         return;
     }
     let standing = ended.standing;
-    standing::write_standing(state, agents, standing);
+    standing::write_standing(state, agents, standing, ended.number);
 }

@@ -8,12 +8,12 @@ use Rattle.laws.proofs.Sets.{Within}
 use Rattle.tcc.specs.Lawful.{Lawful}
 use Rattle.tcc.specs.Instant.{Answer, State, answer, after}
 use Rattle.format.specs.Decode.{sizes, decode}
-use Rattle.lent.specs.States.{asBytes}
+use Rattle.lent.specs.States.{nextBytes, atLast}
 use Rattle.journal.specs.History.{entry, history, Rising}
 use Rattle.history.specs.AnswerIn.{answerIn}
 use Rattle.history.proofs.Stands.{Stands, instant-entry, instant-stands}
 use Rattle.runlist.specs.declared.Stop.{Stop}
-use Rattle.runlist.specs.declared.Stop.the-variants.{Not, Next, Room}
+use Rattle.runlist.specs.declared.Stop.the-variants.{Not, Next, Last, Room}
 use Rattle.runlist.specs.Run.{stopAt, Ran, unlessStopped, runFrom}
 
 module _ (score : List ℕ) (law : Lawful (decode score)) (counted : length (decode score .agents) ≡ sizes score .agents) where
@@ -22,8 +22,8 @@ module _ (score : List ℕ) (law : Lawful (decode score)) (counted : length (dec
   unfolding runFrom history
   run-history [] rising state st stands room = refl
   run-history (inputs ∷ more) rising state st stands room =
-      go (stopAt score a (4 * length words) room) (runFrom score (asBytes (after a)) (room - 4 * length words) more)
-      (run-history more (λ l m. rising l (List·Memᴰ·tail m)) (asBytes (after a)) (after b) (instant-stands score law counted stands inputs (rising inputs (List·Memᴰ·head refl))) (room - 4 * length words))
+      go (stopAt score (atLast state) a (4 * length words) room) (runFrom score (nextBytes state a) (room - 4 * length words) more)
+      (run-history more (λ l m. rising l (List·Memᴰ·tail m)) (nextBytes state a) (after b) (instant-stands score law counted stands inputs (rising inputs (List·Memᴰ·head refl))) (room - 4 * length words))
     where
       a : Answer
       a = answerIn score state inputs
@@ -38,4 +38,5 @@ module _ (score : List ℕ) (law : Lawful (decode score)) (counted : length (dec
           unlessStopped stop state words r .words ≡ history (decode score) st (take (unlessStopped stop state words r .instants) (inputs ∷ more))
       go Not r rest = ap₂ _++_ (instant-entry score law counted stands inputs) rest
       go Next r rest = refl
+      go Last r rest = refl
       go Room r rest = refl

@@ -2,3 +2,5 @@ pub mod Took
 pub mod Runs
 pub mod Counts
 pub mod Exact
+pub mod Numbers
+pub mod Aside

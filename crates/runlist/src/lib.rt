@@ -8,7 +8,7 @@ ghost use Rattle.format.specs.Decode.{sizes, decode};
 ghost use Rattle.format.specs.Playable.{Playable};
 ghost use Rattle.store.specs.Flags.{setOf};
 ghost use Rattle.lent.specs.Lengths.{noScratch};
-ghost use Rattle.lent.specs.States.{stateOf, LawfulState};
+ghost use Rattle.lent.specs.States.{stateOf, instantNumber, LawfulState};
 ghost use Rattle.standing.specs.Standing.{stateIn};
 ghost use Rattle.form.specs.declared.Form.the-variants.{Good};
 ghost use Rattle.form.specs.Form.{formOf};
@@ -26,6 +26,8 @@ pub enum Stop {
     Not,
     // The next state would not be one of the score's.
     Next,
+    // It is wanted at the last number.
+    Last,
     // Its words exceed the journal bytes left.
     Room,
 }
@@ -37,11 +39,12 @@ struct Taken {
     standing: Standing,
 }
 
-// The end of a run: why it stopped, the instants written, and where the score stands.
+// The end of a run: why it stopped, the instants written, where the score stands, and at which number.
 pub struct Ended {
     pub stop: Stop,
     pub instants: usize,
     pub standing: Standing,
+    pub number: u32,
 }
 
 // Plays the instants of a list of good form and writes each whole one that fits.
@@ -49,6 +52,7 @@ pub fn run_list(
     score: &[u8],
     head: Sizes,
     standing: Standing,
+    number: u32,
     inputs: &[u8],
     journal: &mut [u8],
     scratch: &mut [u8],
@@ -58,20 +62,31 @@ pub fn run_list(
     requires { ⌜ LawfulState (sizes (now score) .agents) (stateIn standing) ⌝ }
     requires { ⌜ formOf false (sizes (now score) .tokens) (now inputs) ≡ Good ⌝ }
     requires { ⌜ now scratch ≡ noScratch ⌝ }
-    ensures { λ r. ⌜ ((s : List ℕ) → stateOf s ≡ stateIn standing → RanTo (now (score .entry)) s (now (journal .entry)) (now (journal .exit)) (runFrom (now (score .entry)) s (length (now (journal .entry))) (inputLists (now (inputs .entry)))) r) ⌝ }
+    ensures { λ r. ⌜ ((s : List ℕ) → stateOf s ≡ stateIn standing → instantNumber s ≡ number → RanTo (now (score .entry)) s (now (journal .entry)) (now (journal .exit)) (runFrom (now (score .entry)) s (length (now (journal .entry))) (inputLists (now (inputs .entry)))) r) ⌝ }
     ensures { λ _. ⌜ now (scratch .exit) ≡ noScratch ⌝ }
 {
     let mut stands = standing;
+    let mut reached = number;
     let mut instants = 0;
     let mut at = 0;
     let mut filled = 0;
     while at < inputs.len() {
         let here = parts::part(inputs, Form::Good, at);
         let told = parts::tokens_in(here, 13);
-        let taken = advance(score, head, stands, told, &mut journal[filled..], scratch);
+        let last = reached == lent::LAST_NUMBER;
+        let taken = advance(
+            score,
+            head,
+            stands,
+            last,
+            told,
+            &mut journal[filled..],
+            scratch,
+        );
         let stop = taken.stop;
         if goes_on(stop) {
             stands = taken.standing;
+            reached += 1;
             instants += 1;
             at += here.len();
             filled += taken.bytes;
@@ -80,6 +95,7 @@ pub fn run_list(
                 stop,
                 instants,
                 standing: stands,
+                number: reached,
             };
         }
     }
@@ -87,6 +103,7 @@ pub fn run_list(
         stop: Stop::Not,
         instants,
         standing: stands,
+        number: reached,
     }
 }
 
@@ -95,6 +112,7 @@ fn advance(
     score: &[u8],
     head: Sizes,
     standing: Standing,
+    last: bool,
     told: Tokens,
     journal: &mut [u8],
     scratch: &mut [u8],
@@ -104,14 +122,14 @@ fn advance(
     requires { ⌜ LawfulState (sizes (now score) .agents) (stateIn standing) ⌝ }
     requires { ⌜ ((t : ℕ) → sizes (now score) .tokens ≤ t → getD told t false ≡ false) ⌝ }
     requires { ⌜ now scratch ≡ noScratch ⌝ }
-    ensures { λ r. ⌜ Advanced (now (score .entry)) (answer (decode (now (score .entry))) (stateIn standing) (setOf told)) (entry (decode (now (score .entry))) (setOf told) (answer (decode (now (score .entry))) (stateIn standing) (setOf told))) (now (journal .entry)) (now (journal .exit)) r ⌝ }
+    ensures { λ r. ⌜ Advanced (now (score .entry)) last (answer (decode (now (score .entry))) (stateIn standing) (setOf told)) (entry (decode (now (score .entry))) (setOf told) (answer (decode (now (score .entry))) (stateIn standing) (setOf told))) (now (journal .entry)) (now (journal .exit)) r ⌝ }
     ensures { λ _. ⌜ now (scratch .exit) ≡ noScratch ⌝ }
 {
     let step = history::step_from(score, head, standing, told, scratch);
     let out = step.out;
     let after = step.standing;
     let bytes = journal::size(head.tokens, &told, &out);
-    let stop = stop_by(step.unlawful, bytes, journal.len());
+    let stop = stop_by(step.unlawful, last, bytes, journal.len());
     if goes_on(stop) {
         journal::write(journal, step.status, head.tokens, &told, &out);
         return Taken {
@@ -128,11 +146,14 @@ fn advance(
 }
 
 // Why an instant is not written: the one place where a run decides to stop.
-fn stop_by(unlawful: bool, needed: usize, room: usize) -> Stop
-    ensures { λ r. ⌜ r ≡ stopBy unlawful needed room ⌝ }
+fn stop_by(unlawful: bool, last: bool, needed: usize, room: usize) -> Stop
+    ensures { λ r. ⌜ r ≡ stopBy unlawful last needed room ⌝ }
 {
     if unlawful {
         return Stop::Next;
+    }
+    if last {
+        return Stop::Last;
     }
     if needed <= room {
         Stop::Not
@@ -148,6 +169,7 @@ fn goes_on(stop: Stop) -> bool
     match stop {
         Stop::Not => true,
         Stop::Next => false,
+        Stop::Last => false,
         Stop::Room => false,
     }
 }

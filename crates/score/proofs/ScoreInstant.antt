@@ -27,10 +27,10 @@ use Rattle.verdicts.specs.Verdicts as verdicts
 use Rattle.verdicts.proofs.Verdicts.{number-few, verdict-settled}
 use Rattle.scorefile.specs.Check.{verdict}
 use Rattle.scorefile.proofs.Values.{verdict-small}
-use Rattle.lent.specs.States.{stateFault, stateOf, asBytes}
+use Rattle.lent.specs.States.{stateFault, stateOf, asBytes, atLast}
 use Rattle.maps.specs.Maps.{tokensIn}
 use Rattle.instant.specs.declared.Reply.{Reply as Replied}
-use Rattle.instant.specs.declared.Reply.the-variants.{Score as Turned, Lengths, State, Input, Next, Settled}
+use Rattle.instant.specs.declared.Reply.the-variants.{Score as Turned, Lengths, State, Input, Last, Next, Settled}
 use Rattle.instant.specs.InstantCall.{Lent, Exit, lengthFault, tokenFault, kept, exit, InstantCall}
 use Rattle.answer.specs.Answer.{numberOf, valueOf, statusOf, countOf, Fits, packed, Reads}
 use Rattle.answer.specs.Replies.{ofReply}
@@ -69,6 +69,7 @@ data Proper : Replied → Type 0 where
   lengths : Proper Lengths
   state : Proper State
   input : Proper Input
+  last : Proper Last
   follows : Proper Next
   settles : (s c : ℕ) → s < 4 → c < 2 ^ 11 → Proper (Settled s c)
 
@@ -96,15 +97,17 @@ exit-replies score given l =
     (either Replies (lengthFault given l) (record { proper = lengths })
     (either Replies (stateFault (sizes score .agents) (l .state)) (record { proper = state })
     (either Replies (tokenFault score given) (record { proper = input })
+    (either Replies (atLast (l .state)) (record { proper = last })
     (either Replies (stateFault (sizes score .agents) (asBytes (after a))) (record { proper = follows })
-    (record { proper = answered-proper score (stateOf (l .state)) (tokensIn given) })))))
+    (record { proper = answered-proper score (stateOf (l .state)) (tokensIn given) }))))))
 
 proper-fits : {r : Replied} → Proper r → Fits (ofReply r)
 proper-fits (turned v n h) = reply-fits (verdicts.numberOf v) (verdicts.valueOf v) (number-few v) h
-proper-fits lengths = (omega arith, omega arith, λ h. omega arith, λ h. omega arith, omega arith)
-proper-fits state = (omega arith, omega arith, λ h. omega arith, λ h. omega arith, omega arith)
-proper-fits input = (omega arith, omega arith, λ h. omega arith, λ h. omega arith, omega arith)
-proper-fits follows = (omega arith, omega arith, λ h. omega arith, λ h. omega arith, omega arith)
+proper-fits lengths = omega arith
+proper-fits state = omega arith
+proper-fits input = omega arith
+proper-fits last = omega arith
+proper-fits follows = omega arith
 proper-fits (settles s c p q) = (p, q)
 
 pub fits : (score given : List ℕ) (l : Lent) → Fits (ofReply (exit score given l .reply))
@@ -124,7 +127,7 @@ read score given l m a c = rw (c .answered) (exact (ofReply (exit score given l 
 -- a reply by its verdict, number, status and count
 abbrev replyBy : Verdict → ℕ → ℕ → ℕ → Replied
 replyBy v n s c =
-    cond (eqb n 0) (Settled s c) (cond (eqb n 8) Lengths (cond (eqb n 9) State (cond (eqb n 10) Input (cond (eqb n 11) Next (Turned v)))))
+    cond (eqb n 0) (Settled s c) (cond (eqb n 8) Lengths (cond (eqb n 9) State (cond (eqb n 10) Input (cond (eqb n 18) Last (cond (eqb n 11) Next (Turned v))))))
 
 -- the verdict of a reply that turns the score down
 abbrev verdictIn : Replied → Verdict
@@ -132,6 +135,7 @@ verdictIn (Turned v) = v
 verdictIn Lengths = Accepted
 verdictIn State = Accepted
 verdictIn Input = Accepted
+verdictIn Last = Accepted
 verdictIn Next = Accepted
 verdictIn (Settled s c) = Accepted
 
@@ -140,6 +144,7 @@ verdict-number (turned v n h) = rw (reply-number (verdicts.numberOf v) (verdicts
 verdict-number lengths = refl
 verdict-number state = refl
 verdict-number input = refl
+verdict-number last = refl
 verdict-number follows = refl
 verdict-number (settles s c p q) = refl
 
@@ -148,6 +153,7 @@ verdict-value (turned v n h) = sym (reply-value (verdicts.numberOf v) (verdicts.
 verdict-value lengths = refl
 verdict-value state = refl
 verdict-value input = refl
+verdict-value last = refl
 verdict-value follows = refl
 verdict-value (settles s c p q) = refl
 
@@ -155,10 +161,11 @@ by-itself : {r : Replied} → Proper r → r ≡ replyBy (verdictIn r) (numberOf
 by-itself (turned v n h) =
     let few = number-few v in
     let m = verdicts.numberOf v in
-    rw (reply-number m (verdicts.valueOf v), ne-eqb m 0 n, ne-eqb m 8 (λ z. omega arith), ne-eqb m 9 (λ z. omega arith), ne-eqb m 10 (λ z. omega arith), ne-eqb m 11 (λ z. omega arith))
+    rw (reply-number m (verdicts.valueOf v), ne-eqb m 0 n, ne-eqb m 8 (λ z. omega arith), ne-eqb m 9 (λ z. omega arith), ne-eqb m 10 (λ z. omega arith), ne-eqb m 18 (λ z. omega arith), ne-eqb m 11 (λ z. omega arith))
 by-itself lengths = refl
 by-itself state = refl
 by-itself input = refl
+by-itself last = refl
 by-itself follows = refl
 by-itself (settles s c p q) = refl
 

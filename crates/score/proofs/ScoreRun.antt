@@ -16,7 +16,7 @@ use Rattle.verdicts.proofs.Verdicts.{number-few}
 use Rattle.scorefile.specs.Check.{verdict}
 use Rattle.scorefile.proofs.Values.{verdict-small}
 use Rattle.history.specs.declared.Reply.{Reply as Replied}
-use Rattle.history.proofs.Replies.{Proper, turned, lengths, no-state, unlawful, bytes, word, differs, full, accepted}
+use Rattle.history.proofs.Replies.{Proper, turned, lengths, no-state, unlawful, bytes, word, differs, full, last, accepted}
 use Rattle.run.specs.RunCall.{Lent, Exit, exit, RunCall}
 use Rattle.run.proofs.Replies.{run-proper}
 use Rattle.answer.specs.Answer.{Fits, packed, Reads}
@@ -31,13 +31,14 @@ one-exit score inputs before after₁ after₂ a b p q = (p .written ∙ sym (q 
 
 pub proper-fits : {score : List ℕ} {n : ℕ} {r : Replied} → n < 2 ^ 61 → Proper score n r → Fits (ofRunReply r)
 proper-fits {score = score} few turned = reply-fits (verdicts.numberOf (verdict score)) (verdicts.valueOf (verdict score)) (number-few (verdict score)) (verdict-small score)
-proper-fits few lengths = (omega arith, omega arith, λ h. omega arith, λ h. omega arith, omega arith)
-proper-fits few no-state = (omega arith, omega arith, λ h. omega arith, λ h. omega arith, omega arith)
-proper-fits few unlawful = (omega arith, omega arith, λ h. omega arith, λ h. omega arith, omega arith)
-proper-fits few bytes = (omega arith, omega arith, λ h. omega arith, λ h. omega arith, omega arith)
-proper-fits few (word k h) = (omega arith, omega arith, λ h. omega arith, λ h. omega arith, omega arith)
-proper-fits few (differs k h) = (omega arith, omega arith, λ h. omega arith, λ h. omega arith, omega arith)
-proper-fits few (full k h) = (omega arith, omega arith, λ h. omega arith, λ h. omega arith, omega arith)
+proper-fits few lengths = omega arith
+proper-fits few no-state = omega arith
+proper-fits few unlawful = omega arith
+proper-fits few bytes = omega arith
+proper-fits few (word k h) = omega arith
+proper-fits few (differs k h) = omega arith
+proper-fits few (full k h) = omega arith
+proper-fits few (last k h) = omega arith
 proper-fits few (accepted k h) = omega arith
 
 pub words-few : (s : List ℕ) → Slice s → length s / 4 < 2 ^ 61

@@ -9,7 +9,7 @@ ghost use Rattle.format.specs.Playable.{Playable};
 ghost use Rattle.store.specs.Flags.{setOf, flagsOf};
 ghost use Rattle.engine.specs.Outcome.{outcomeOf};
 ghost use Rattle.lent.specs.Lengths.{stateBytes, noScratch};
-ghost use Rattle.lent.specs.States.{asBytes, LawfulState};
+ghost use Rattle.lent.specs.States.{numbered, LawfulState};
 ghost use Rattle.standing.specs.Standing.{stateIn, standingIn};
 use engine::Outcome;
 use format::Sizes;
@@ -70,18 +70,18 @@ pub fn standing_after(outcome: Outcome) -> Standing
     }
 }
 
-// Writes the state that a score stands in.
-pub fn write_standing(state: &mut [u8], agents: usize, standing: Standing)
+// Writes the state that a score stands in, with its number.
+pub fn write_standing(state: &mut [u8], agents: usize, standing: Standing, number: u32)
     requires { ⌜ length (now state) ≡ stateBytes ⌝ }
     requires { ⌜ LawfulState agents (stateIn standing) ⌝ }
-    ensures { λ _. ⌜ now (state .exit) ≡ asBytes (stateIn standing) ⌝ }
+    ensures { λ _. ⌜ now (state .exit) ≡ numbered (stateIn standing) number ⌝ }
 {
     let awake = standing.awake;
     if standing.running {
-        lent::write_state(state, lent::RUNNING, agents, awake);
+        lent::write_state(state, lent::RUNNING, agents, awake, number);
         return;
     }
-    lent::write_state(state, lent::ABORTED, 0, [false; 1024]);
+    lent::write_state(state, lent::ABORTED, 0, [false; 1024], number);
 }
 
 // What goes to the ports: the one place where outputs are read off. In a clash nothing does.

@@ -6,7 +6,7 @@ use mathlib.Core.Path.{_≡_, refl, sym, ap, _∙_}
 use mathlib.Core.List.{List, [], _∷_, List·Memᴰ, List·Memᴰ·head, List·Memᴰ·not-nil}
 use Prim.Native.Nat.{ℕ, _<_}
 use native.Mathlib.Omega.{arith}
-use borrow.Author.Tests.{eq-eqb, eqb-true}
+use borrow.Author.Tests.{eq-eqb, eqb-true, ne-eqb}
 use lib.Dec.{eqb}
 use lib.ListN.{length}
 use Rattle.laws.specs.Sets.{keep}
@@ -15,7 +15,8 @@ use Rattle.tcc.specs.Score.{Score}
 use Rattle.tcc.specs.Instant.{State, answer}
 use Rattle.tcc.proofs.Status.{status-same}
 use Rattle.format.specs.Decode.{sizes, decode}
-use Rattle.lent.specs.States.{stateFault, stateOf}
+use Rattle.lent.specs.States.{stateOf, instantNumber, lastNumber}
+use Rattle.lent.proofs.Numbered.{state-aside, fault-aside}
 use Rattle.maps.specs.Maps.{tokensIn}
 use Rattle.settings.specs.Settings.{settings, ending}
 use Rattle.settings.specs.AllSettings.{Setting}
@@ -32,8 +33,9 @@ module _ {score state switches : List ℕ} {k : ℕ} (a : Accepts score state sw
     tried-accepted = settled-instant (t .meets) (record {
       accepted = a .accepted;
       long = t .right;
-      faultless = ap (stateFault (sizes score .agents)) (t .from) ∙ a .lawful;
+      faultless = fault-aside (t .before .state) state (t .from .words) (sizes score .agents) ∙ a .lawful;
       known = known-input score (t .input) (λ x m. known a x (setting .chosen x (t .pressed x .0 m)));
+      below = ne-eqb (instantNumber (t .before .state)) lastNumber (λ e. omega (arith, t .below));
     })
 
     pub tried-ends : (numberIn (t .answer) ≡ 0) × (status ≡ answer (decode score) (stateOf state) set .status)
@@ -41,7 +43,7 @@ module _ {score state switches : List ℕ} {k : ℕ} (a : Accepts score state sw
       tried-accepted,
       sym (t .ends)
           ∙ ap (λ p. p .status) (accepted-instant (t .meets) tried-accepted .is)
-          ∙ ap (λ s. answer (decode score) (stateOf s) (tokensIn (t .input)) .status) (t .from)
+          ∙ ap (λ st. answer (decode score) st (tokensIn (t .input)) .status) (state-aside (t .before .state) state (t .from .words))
           ∙ status-same (decode score) (stateOf state) (t .pressed),
     )
 

@@ -10,12 +10,11 @@ use mathlib.Core.List.{List}
 use Prim.Native.Nat.{ℕ}
 use lib.ListN.{length, drop}
 use lib.Seq.{drop-at}
-use Rattle.tcc.specs.Instant.{startState}
 use Rattle.format.specs.Decode.{decode}
 use Rattle.verdicts.specs.Verdicts.{numberOf}
 use Rattle.bits.specs.Bits.{bytesOf}
 use Rattle.lent.specs.Lengths.{scratchBytes}
-use Rattle.lent.specs.States.{asBytes}
+use Rattle.lent.specs.States.{startBytes}
 use Rattle.run.specs.RunCall.{Lent}
 use Rattle.drafts.specs.Chain.{Journal}
 use Rattle.translation.specs.Plain.{plainOf}
@@ -59,7 +58,7 @@ module _ (draft before after : List ℕ) (answer : ℕ) (t : Translated draft be
       Journal (decodeDraft draft) instants words → Journal (decodeDraft draft) instants words′ → words ≡ words′
   one-journal instants words words′ known j j′ = let shows = translation-exact draft before after answer t .1 instants known .0 in shows words j ∙ sym (shows words′ j′)
 
-  pub journal-stands : (inputs scratch scratch′ : List ℕ) (lent left : Lent) (ran checked : ℕ) → lent .state ≡ asBytes (startState (decode (plainIn after answer))) →
+  pub journal-stands : (inputs scratch scratch′ : List ℕ) (lent left : Lent) (ran checked : ℕ) → lent .state ≡ startBytes (decode (plainIn after answer)) →
       ScoreRun (plainIn after answer) inputs lent left ran → length scratch ≡ scratchBytes →
       ScoreJournalCheck (plainIn after answer) (bytesOf (startHistory (plainIn after answer) inputs (written ran))) scratch scratch′ checked →
       (numberIn checked ≡ 0) × (valueIn checked ≡ written ran)

@@ -35,7 +35,7 @@ module _ {draft before after : List ℕ} {answer : ℕ} (t : Translated draft be
   tokens-more = rw (plain-decoded t) (plain-carries (decodeDraft draft) (draft-lawful t) (translated-wrote t .fit) .tokens-more)
 
   checks : ChecksAsTheDraft draft (plainIn after answer)
-  checks instants words scratch left checked known rising j long c =
+  checks instants words scratch left checked known rising few j long c =
       exactly (plainIn after answer) (bytesOf words) scratch left checked (length instants) (ap numberOf (plain-accepted t)) long c .1
       (record {
         inputs = instants;
@@ -43,6 +43,7 @@ module _ {draft before after : List ℕ} {answer : ℕ} (t : Translated draft be
         instants = refl;
         is = ap bytesOf (shows instants known .0 words j);
       })
+      few
 
 pub translation-exact : TranslationExact
 translation-exact draft before after answer t = (plain-accepted t, shows t, runs t, checks t)

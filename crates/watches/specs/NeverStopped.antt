@@ -11,7 +11,7 @@ use Rattle.tcc.specs.Score.{Score}
 use Rattle.tcc.specs.Instant.{Answer, startState, answers}
 use Rattle.format.specs.Decode.{decode}
 use Rattle.bits.specs.Bits.{bytesOf}
-use Rattle.lent.specs.States.{asBytes}
+use Rattle.lent.specs.States.{startBytes}
 use Rattle.parts.specs.Instants.{inputLists}
 use Rattle.journal.specs.History.{history}
 use Rattle.run.specs.RunCall.{Lent}
@@ -33,7 +33,7 @@ NeverStopped =
     (draft before after : List ℕ) (answer : ℕ) → Translated draft before after answer →
     ((instants : List (List ℕ)) → KnownTo (decodeDraft draft) instants → NeverWatched (decodeDraft draft) (decode (plainIn after answer)) instants →
     history (decode (plainIn after answer)) (startState (decode (plainIn after answer))) instants ≡ unwatchedHistory draft instants)
-    × ((inputs : List ℕ) (lent left : Lent) (ran : ℕ) → lent .state ≡ asBytes (startState (decode (plainIn after answer))) →
+    × ((inputs : List ℕ) (lent left : Lent) (ran : ℕ) → lent .state ≡ startBytes (decode (plainIn after answer)) →
     ScoreRun (plainIn after answer) inputs lent left ran → KnownTo (decodeDraft draft) (inputLists inputs) →
     NeverWatched (decodeDraft draft) (decode (plainIn after answer)) (take (written ran) (inputLists inputs)) →
     left .journal ≡ bytesOf (unwatchedHistory draft (take (written ran) (inputLists inputs))) ++ drop (4 * length (unwatchedHistory draft (take (written ran) (inputLists inputs)))) (lent .journal))

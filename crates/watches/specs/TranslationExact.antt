@@ -3,18 +3,18 @@
 --     ShowsTheDraft        every finished chain of draft orders shows exactly the history of the plain score, and there is
 --                          one, up to and past an abort
 --     RunsAsTheDraft       what a run of the plain score writes from its start is the draft's journal, of the instants written
---     ChecksAsTheDraft     the draft's journals are accepted for the plain score
+--     ChecksAsTheDraft     the draft's journals are accepted for the plain score, up to the last number
 --     TranslationExact     the score check accepts the plain score, and all three
 use mathlib.Core.Path.{_≡_}
 use mathlib.Core.List.{List, _++_, List·Memᴰ}
-use Prim.Native.Nat.{ℕ, _*_}
+use Prim.Native.Nat.{ℕ, _*_, _≤_}
 use lib.ListN.{length, take, drop}
 use Rattle.tcc.specs.Instant.{startState}
 use Rattle.format.specs.Decode.{decode}
 use Rattle.verdicts.specs.declared.Verdict.the-variants.{Accepted}
 use Rattle.scorefile.specs.Check.{verdict}
 use Rattle.bits.specs.Bits.{bytesOf}
-use Rattle.lent.specs.States.{asBytes}
+use Rattle.lent.specs.States.{startBytes, lastNumber}
 use Rattle.lent.specs.Lengths.{scratchBytes}
 use Rattle.parts.specs.Instants.{inputLists}
 use Rattle.journal.specs.History.{history, Rising}
@@ -35,7 +35,7 @@ ShowsTheDraft draft plain =
 
 abbrev pub RunsAsTheDraft : List ℕ → List ℕ → Type 0
 RunsAsTheDraft draft plain =
-    (inputs : List ℕ) (before after : Lent) (answer : ℕ) → before .state ≡ asBytes (startState (decode plain)) → ScoreRun plain inputs before after answer →
+    (inputs : List ℕ) (before after : Lent) (answer : ℕ) → before .state ≡ startBytes (decode plain) → ScoreRun plain inputs before after answer →
     KnownTo (decodeDraft draft) (inputLists inputs) →
     (words : List ℕ) → Journal (decodeDraft draft) (take (written answer) (inputLists inputs)) words →
     after .journal ≡ bytesOf words ++ drop (4 * length words) (before .journal)
@@ -43,7 +43,7 @@ RunsAsTheDraft draft plain =
 abbrev pub ChecksAsTheDraft : List ℕ → List ℕ → Type 0
 ChecksAsTheDraft draft plain =
     (instants : List (List ℕ)) (words before after : List ℕ) (answer : ℕ) → KnownTo (decodeDraft draft) instants →
-    ((l : List ℕ) → List·Memᴰ l instants → Rising (decodeDraft draft .tokens) l) →
+    ((l : List ℕ) → List·Memᴰ l instants → Rising (decodeDraft draft .tokens) l) → length instants ≤ lastNumber →
     Journal (decodeDraft draft) instants words → length before ≡ scratchBytes → ScoreJournalCheck plain (bytesOf words) before after answer →
     (numberIn answer ≡ 0) × (valueIn answer ≡ length instants)
 

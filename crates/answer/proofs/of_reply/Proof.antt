@@ -35,6 +35,12 @@ refusal-requires-3 c κs = search needs
 enum-told-4 : tie.Need-enum-told-4
 enum-told-4 c = search needs
 
+wide-requires : tie.Need-wide-requires
+wide-requires c κs = search needs
+
+enum-told-5 : tie.Need-enum-told-5
+enum-told-5 c = search needs
+
 refusal-requires-4 : tie.Need-refusal-requires-4
 refusal-requires-4 c κs = search needs
 
@@ -57,10 +63,13 @@ returns-4 : tie.Need-returns-4
 returns-4 c = as-told ofReply (c .refusal3 .ensures) (c .before .enum-told3 .given .1) refl
 
 returns-5 : tie.Need-returns-5
-returns-5 c = as-told ofReply (c .refusal4 .ensures) (c .before .enum-told4 .given .1) refl
+returns-5 c = as-told ofReply (c .wide .ensures) (c .before .enum-told4 .given .1) refl
 
 returns-6 : tie.Need-returns-6
-returns-6 c = as-told ofReply (c .settling .ensures) (c .before .before .reply2 .given .1) refl
+returns-6 c = as-told ofReply (c .refusal4 .ensures) (c .before .enum-told5 .given .1) refl
+
+returns-7 : tie.Need-returns-7
+returns-7 c = as-told ofReply (c .settling .ensures) (c .before .before .reply2 .given .1) refl
 
 pub of-reply-spec : {M : Type 1} → statement M
 of-reply-spec =
@@ -75,6 +84,8 @@ of-reply-spec =
     enum-told-3
     refusal-requires-3
     enum-told-4
+    wide-requires
+    enum-told-5
     refusal-requires-4
     enum-known-reply-2
     settling-requires
@@ -83,4 +94,5 @@ of-reply-spec =
     returns-3
     returns-4
     returns-5
-    returns-6)
+    returns-6
+    returns-7)

@@ -43,22 +43,28 @@ enum-known-reply-2 : tie.Need-enum-known-reply-2
 enum-known-reply-2 c = search needs
 
 wide-requires : tie.Need-wide-requires
-wide-requires c κs = (omega arith, (omega arith, subst (λ (r : Replied). Fits (ofRunReply r)) (c .before .reply2 .given .1) (c .before .before .before .pre) .1))
+wide-requires c κs = (omega arith, (omega arith, (refl, subst (λ (r : Replied). Fits (ofRunReply r)) (c .before .reply2 .given .1) (c .before .before .before .pre) .2)))
 
 enum-known-reply-3 : tie.Need-enum-known-reply-3
 enum-known-reply-3 c = search needs
 
 wide-requires-2 : tie.Need-wide-requires-2
-wide-requires-2 c κs = (omega arith, (omega arith, subst (λ (r : Replied). Fits (ofRunReply r)) (c .before .reply3 .given .1) (c .before .before .before .pre) .1))
+wide-requires-2 c κs = (omega arith, (omega arith, (refl, subst (λ (r : Replied). Fits (ofRunReply r)) (c .before .reply3 .given .1) (c .before .before .before .pre) .2)))
 
 enum-known-reply-4 : tie.Need-enum-known-reply-4
 enum-known-reply-4 c = search needs
 
 wide-requires-3 : tie.Need-wide-requires-3
-wide-requires-3 c κs = (omega arith, (omega arith, subst (λ (r : Replied). Fits (ofRunReply r)) (c .before .reply4 .given .1) (c .before .before .before .pre) .1))
+wide-requires-3 c κs = (omega arith, (omega arith, (refl, subst (λ (r : Replied). Fits (ofRunReply r)) (c .before .reply4 .given .1) (c .before .before .before .pre) .2)))
 
 enum-known-reply-5 : tie.Need-enum-known-reply-5
 enum-known-reply-5 c = search needs
+
+wide-requires-4 : tie.Need-wide-requires-4
+wide-requires-4 c κs = (omega arith, (omega arith, (refl, subst (λ (r : Replied). Fits (ofRunReply r)) (c .before .reply5 .given .1) (c .before .before .before .pre) .2)))
+
+enum-known-reply-6 : tie.Need-enum-known-reply-6
+enum-known-reply-6 c = search needs
 
 returns : tie.Need-returns
 returns c = as-told ofRunReply (c .of-verdict .ensures) (c .before .before .reply .given .1) refl
@@ -85,8 +91,11 @@ returns-8 : tie.Need-returns-8
 returns-8 c = as-told ofRunReply (c .wide3 .ensures) (c .before .before .reply4 .given .1) refl
 
 returns-9 : tie.Need-returns-9
+returns-9 c = as-told ofRunReply (c .wide4 .ensures) (c .before .before .reply5 .given .1) refl
+
+returns-10 : tie.Need-returns-10
 unfolding packed
-returns-9 c = ap (λ r. packed (ofRunReply r)) (sym (c .before .reply5 .given .1))
+returns-10 c = ap (λ r. packed (ofRunReply r)) (sym (c .before .reply6 .given .1))
 
 pub of-run-reply-spec : {M : Type 1} → statement M
 of-run-reply-spec =
@@ -109,6 +118,8 @@ of-run-reply-spec =
     enum-known-reply-4
     wide-requires-3
     enum-known-reply-5
+    wide-requires-4
+    enum-known-reply-6
     returns
     returns-2
     returns-3
@@ -117,4 +128,5 @@ of-run-reply-spec =
     returns-6
     returns-7
     returns-8
-    returns-9)
+    returns-9
+    returns-10)

@@ -1,5 +1,6 @@
 -- `of_verdict`: a verdict, packed.
-use mathlib.Core.Path.{_≡_, refl, sym, ap, ap₂, _∙_}
+use mathlib.Core.Path.{_≡_, refl, sym, ap, ap₂, subst, _∙_}
+use mathlib.Core.Bool.{cond}
 use Prim.Native.Nat.{ℕ, zero, suc, _^_, _<_}
 use native.Mathlib.Omega.{arith}
 use Rattle.verdicts.specs.Verdicts.{numberOf, valueOf}
@@ -18,7 +19,7 @@ refused-reply (suc n) v h = refl
 
 small : (n v : ℕ) → (n ≡ 0 → ⊥) → n < 13 → Fits (reply n v) → v < 2 ^ 24
 small zero v h lt f = absurd (h refl)
-small (suc n) v h lt f = f .2 lt
+small (suc n) v h lt f = subst (λ b. v < cond b (2 ^ 61) (2 ^ 24)) (not-wide (suc n) lt) (f .2)
 
 number-of-requires : tie.Need-number-of-requires
 number-of-requires c κs = search needs

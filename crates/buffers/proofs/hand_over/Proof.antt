@@ -1,7 +1,7 @@
 -- `hand_over`: each buffer by its writer.
 use mathlib.Core.Path.{ap, _∙_}
 use mathlib.Core.Bool.{false}
-use mathlib.Core.List.{_∷_, List·Memᴰ}
+use mathlib.Core.List.{[], _∷_, _++_, List·Memᴰ}
 use Prim.Native.Nat.{ℕ, _<_}
 use borrow.Author.Needs.{needs}
 use native.Mathlib.Omega.{arith}
@@ -64,7 +64,7 @@ returns c =
     let out = output sc (b .args .outcome .status) (setOf (b .args .outcome .store)) in
     let within : (t : ℕ) → List·Memᴰ t out → t < 256 = λ t m. omega (arith, output-from sc (b .args .outcome .status) (setOf (b .args .outcome .store)) t m .high, l .ports-known, l .most-tokens) in
     record {
-      state-is = c .before .before .before .before .before .before .before .before .before .before .before .write-state .ensures ∙ ap (λ w. bytesOf (w ∷ agentWords (setOf (b .args .outcome .awake)))) (c .before .before .before .before .before .before .before .before .before .before .before .before .before .first-word .ensures);
+      state-is = c .before .before .before .before .before .before .before .before .before .before .before .write-state .ensures ∙ ap (λ w. bytesOf ((w ∷ agentWords (setOf (b .args .outcome .awake))) ++ b .args .number ∷ [])) (c .before .before .before .before .before .before .before .before .before .before .before .before .before .first-word .ensures);
       store-is = c .before .before .before .before .before .before .before .write-map .ensures;
       output-is = c .before .before .write-map2 .ensures ∙ ap (λ r. mapOf (setOf r)) (c .before .before .before .before .sent .ensures) ∙ mapOf-same (flags-back 256 out within);
     }

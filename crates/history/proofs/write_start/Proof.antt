@@ -3,7 +3,7 @@ use mathlib.Core.Path.{_≡_, ap, subst⁻¹, _∙_}
 use borrow.Author.Needs.{needs}
 use Rattle.format.specs.Decode.{sizes}
 use Rattle.scorefile.proofs.Stages.{head-read}
-use Rattle.lent.specs.States.{asBytes, LawfulState}
+use Rattle.lent.specs.States.{numbered, LawfulState}
 use Rattle.standing.specs.Standing.{stateIn}
 use Rattle.history.proofs.Starts.{start-lawful, start-bytes}
 use Rattle.history.proofs.write_start.Statement.{statement}
@@ -32,7 +32,7 @@ same-length c = search needs
 returns : tie.Need-returns
 returns c =
     let b = c .before .before .before .before .before .before .before .before .before in
-    c .before .before .write-standing .ensures ∙ ap asBytes (c .before .before .before .before .start .ensures) ∙ start-bytes (b .args .score .now) (b .pre .0)
+    c .before .before .write-standing .ensures ∙ ap (λ st. numbered st 0) (c .before .before .before .before .start .ensures) ∙ start-bytes (b .args .score .now) (b .pre .0)
 
 pub write-start-spec : {M : Type 1} → statement M
 write-start-spec =

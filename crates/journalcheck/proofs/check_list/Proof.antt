@@ -41,25 +41,28 @@ same-length c = ap length (c .before .before .before .check-instant .ensures .1 
 returns : tie.Need-returns Inv-loop μ-loop
 returns c = let h = c .before .before .before .check-instant in (checking-unlawful (turn (c .before .before .before .before .before)) (h .result) (h .ensures .0) (c .if1 .taken), h .ensures .1)
 
+cast-if2 : tie.Need-cast-if2 Inv-loop μ-loop
+cast-if2 c = search needs
+
 same-length-2 : tie.Need-same-length-2 Inv-loop μ-loop
-same-length-2 c = ap length (c .before .before .before .before .check-instant .ensures .1 ∙ sym (c .before .before .before .before .before .before .before .before .before .before .before .before .before .pre .1 .1 .1))
+same-length-2 c = ap length (c .before .before .before .before .before .check-instant .ensures .1 ∙ sym (c .before .before .before .before .before .before .before .before .before .before .before .before .before .before .pre .1 .1 .1))
 
 returns-2 : tie.Need-returns-2 Inv-loop μ-loop
-returns-2 c = let h = c .before .before .before .before .check-instant in (checking-differs (turn (c .before .before .before .before .before .before)) (h .result) (h .ensures .0) (c .before .if1 .left) (c .if2 .taken), h .ensures .1)
+returns-2 c = let h = c .before .before .before .before .before .check-instant in (checking-differs (turn (c .before .before .before .before .before .before .before)) (h .result) (h .ensures .0) (c .before .before .if1 .left) (c .if2 .taken), h .ensures .1)
 
 add-instants : tie.Need-add-instants Inv-loop μ-loop
-add-instants c = let t = turn (c .before .before .before .before .before .before .before) in omega (arith, t .checking .counted, t .not-end)
+add-instants c = let t = turn (c .before .before .before .before .before .before .before .before) in omega (arith, t .checking .counted, t .not-end)
 
 add-at : tie.Need-add-at Inv-loop μ-loop
-add-at c = omega (arith, next (turn (c .before .before .before .before .before .before .before)) .fits)
+add-at c = omega (arith, next (turn (c .before .before .before .before .before .before .before .before)) .fits)
 
 loop-less : tie.Need-loop-less Inv-loop μ-loop
-loop-less c = let t = turn (c .before .before .before .before .before .before .before) in omega (arith, next t .some, t .not-end)
+loop-less c = let t = turn (c .before .before .before .before .before .before .before .before) in omega (arith, next t .some, t .not-end)
 
 loop-again : tie.Need-loop-again Inv-loop μ-loop
 loop-again c =
-    let h = c .before .before .before .before .before .check-instant in
-    (checking-more (turn (c .before .before .before .before .before .before .before)) (h .result) (h .ensures .0) (c .before .before .if1 .left) (c .before .if2 .left), h .ensures .1)
+    let h = c .before .before .before .before .before .before .check-instant in
+    (checking-more (turn (c .before .before .before .before .before .before .before .before)) (h .result) (h .ensures .0) (c .before .before .before .if1 .left) (c .before .if2 .left), h .ensures .1)
 
 same-length-3 : tie.Need-same-length-3 Inv-loop μ-loop
 same-length-3 c = ap length (c .before .loop .inv .1 ∙ sym (c .before .before .before .before .before .before .pre .1 .1 .1))
@@ -79,6 +82,7 @@ check-list-spec =
     check-instant-requires
     same-length
     returns
+    cast-if2
     same-length-2
     returns-2
     add-instants

@@ -1,4 +1,4 @@
--- `lent::write_state`: the first word and the words of agents below k are written.
+-- `lent::write_state`: the first word and the words of agents below k are written; the number after them.
 use mathlib.Core.Path.{_≡_, ap, _∙_}
 use Prim.Native.Nat.{_-_, _≤_}
 use borrow.Author.Needs.{needs}
@@ -10,10 +10,10 @@ use Rattle.lent.proofs.write_state.Statement.{statement}
 use Rattle.lent.proofs.write_state.Tie as tie
 
 abbrev Inv-loop : tie.InvT-loop
-Inv-loop state₀ first agents awake k₀ state k = (k ≤ 32) × (length state ≡ stateBytes) × (length state₀ ≡ stateBytes) × (length awake ≡ 1024) × (state ≡ stateWritten first awake k state₀)
+Inv-loop state₀ first agents number awake k₀ state k = (k ≤ 32) × (length state ≡ stateBytes) × (length state₀ ≡ stateBytes) × (length awake ≡ 1024) × (state ≡ stateWritten first awake k state₀)
 
 abbrev μ-loop : tie.MeasureT-loop
-μ-loop state₀ first agents awake k₀ state k = 32 - k
+μ-loop state₀ first agents number awake k₀ state k = 32 - k
 
 put-word-requires : tie.Need-put-word-requires Inv-loop μ-loop
 put-word-requires c κs = omega arith
@@ -57,15 +57,19 @@ loop-again c = let a = c .before .before .before .before .before .before .before
       state-more (a .first) (a .t4) (b .k) (c .before .before .before .before .gather .result) _ (b .state) (t .last .0) (h .4) (c .before .before .before .before .gather .ensures) (t .ensures),
     )
 
+put-word-requires-3 : tie.Need-put-word-requires-3 Inv-loop μ-loop
+put-word-requires-3 c κs = omega arith
+
 same-length : tie.Need-same-length Inv-loop μ-loop
 same-length c = search needs
 
 returns : tie.Need-returns Inv-loop μ-loop
-returns c = let a = c .before .before .before .before .before .before .before .args in
-    let t = c .before .before .before .before .put-word .last .0 in
-    let h = c .before .loop .inv in
-    let e : c .before .loop .k ≡ 32 = omega arith in
-    h .4 ∙ ap (λ k. stateWritten (a .first) (a .t4) k t) e ∙ state-all (a .first) (a .t4) t (h .2)
+returns c = let a = c .before .before .before .before .before .before .before .before .before .before .before .args in
+    let b = c .before .before .before .before .before .loop in
+    let t = c .before .before .before .before .before .before .before .before .put-word .last .0 in
+    let h = b .inv in
+    let e : b .k ≡ 32 = omega arith in
+    state-all (a .first) (a .t4) (a .number) t (b .state) (c .before .before .put-word3 .last .0) (h .2) (h .4 ∙ ap (λ k. stateWritten (a .first) (a .t4) k t) e) (c .before .before .put-word3 .ensures)
 
 pub write-state-spec : {M : Type 1} → statement M
 write-state-spec =
@@ -83,5 +87,6 @@ write-state-spec =
     add-k
     loop-less
     loop-again
+    put-word-requires-3
     same-length
     returns)

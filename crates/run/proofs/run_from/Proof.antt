@@ -21,18 +21,21 @@ stands : (c : tie.After-standing-in) → stateIn (c .standing-in .result) ≡ st
 stands c = ap stateIn (c .standing-in .ensures) ∙ standing-state (c .before .before .before .before .before .before .before .args .state .now)
 
 -- the run, by its definition
-ran : (c : tie.After-run-list) → let b = c .before .before .before .before .before .before .before .before .before .before in
-    RanTo (b .args .score .now) (b .args .state .now) (b .args .journal .now) (c .run-list .last .1 .1 .1 .1 .0) (runFrom (b .args .score .now) (b .args .state .now) (length (b .args .journal .now)) (inputLists (b .args .inputs .now))) (c .run-list .result)
-ran c = c .run-list .ensures .0 (c .before .before .before .before .before .before .before .before .before .before .args .state .now) (sym (stands (c .before .before .before)))
+ran : (c : tie.After-run-list) → let b = c .before .before .before .before .before .before .before .before .before .before .before .before in
+    RanTo (b .args .score .now) (b .args .state .now) (b .args .journal .now) (c .run-list .last .1 .1 .1 .1 .1 .0) (runFrom (b .args .score .now) (b .args .state .now) (length (b .args .journal .now)) (inputLists (b .args .inputs .now))) (c .run-list .result)
+ran c = c .run-list .ensures .0 (c .before .before .before .before .before .before .before .before .before .before .before .before .args .state .now) (sym (stands (c .before .before .before .before .before))) (sym (c .before .before .before .number-in .ensures))
+
+number-in-requires : tie.Need-number-in-requires
+number-in-requires c κs = search needs
 
 run-list-requires : tie.Need-run-list-requires
 run-list-requires c κs =
-    let b = c .before .before .before .before .before .before .before .before .before in
-    (b .pre .0, (b .pre .1 .0, (subst⁻¹ (LawfulState (sizes (b .args .score .now) .agents)) (stands (c .before .before)) (faultless-lawful (sizes (b .args .score .now) .agents) (b .args .state .now) (b .pre .1 .1 .1 .0)), (b .pre .1 .1 .1 .1 .0, b .pre .1 .1 .1 .1 .1))))
+    let b = c .before .before .before .before .before .before .before .before .before .before .before in
+    (b .pre .0, (b .pre .1 .0, (subst⁻¹ (LawfulState (sizes (b .args .score .now) .agents)) (stands (c .before .before .before .before)) (faultless-lawful (sizes (b .args .score .now) .agents) (b .args .state .now) (b .pre .1 .1 .1 .0)), (b .pre .1 .1 .1 .1 .0, b .pre .1 .1 .1 .1 .1))))
 
 keep-requires : tie.Need-keep-requires
 keep-requires c κs =
-    let b = c .before .before .before .before .before .before .before .before .before .before .before .before .before .before .before in
+    let b = c .before .before .before .before .before .before .before .before .before .before .before .before .before .before .before .before .before in
     (b .pre .1 .1 .0, subst⁻¹ (λ h. LawfulState (h .agents) (stateIn (c .before .before .before .before .before .run-list .result .standing))) (b .pre .0) (ran (c .before .before .before .before .before) .lawful))
 
 reply-of-requires : tie.Need-reply-of-requires
@@ -45,7 +48,7 @@ same-length-2 : tie.Need-same-length-2
 same-length-2 c = search needs
 
 same-length-3 : tie.Need-same-length-3
-same-length-3 c = ap length (c .before .before .before .before .before .before .before .before .before .run-list .ensures .1 ∙ sym (c .before .before .before .before .before .before .before .before .before .before .before .before .before .before .before .before .before .before .before .pre .1 .1 .1 .1 .1))
+same-length-3 c = ap length (c .before .before .before .before .before .before .before .before .before .run-list .ensures .1 ∙ sym (c .before .before .before .before .before .before .before .before .before .before .before .before .before .before .before .before .before .before .before .before .before .pre .1 .1 .1 .1 .1))
 
 returns : tie.Need-returns
 returns c =
@@ -63,6 +66,7 @@ run-from-spec =
     tie.close
     (tie.spec
     standing-in-requires
+    number-in-requires
     run-list-requires
     keep-requires
     reply-of-requires

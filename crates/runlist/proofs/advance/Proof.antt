@@ -17,7 +17,7 @@ use Rattle.runlist.proofs.advance.Tie as tie
 few : (c : tie.Start) → c .args .head .tokens ≤ 256
 few c = omega (arith, ap (λ h. h .tokens) (c .pre .0), decode-tokens (c .args .score .now), c .pre .1 .0 .lawful .most-tokens)
 
-told-long : (c : tie.Start) → length (c .args .t4) ≡ 256
+told-long : (c : tie.Start) → length (c .args .t5) ≡ 256
 told-long c = search needs
 
 out-long : (c : tie.After-step-from) → length (c .step-from .result .out) ≡ 256
@@ -35,15 +35,15 @@ slice-aggregate-size-2 c = search needs
 -- what goes into the journal: no flag from T on
 flags-known : (c : tie.After-step-from) → let b = c .before .before .before .before .before in
     (c .step-from .result .status < 4)
-    × (((i : ℕ) → b .args .head .tokens ≤ i → getD (b .args .t4) i false ≡ false) × ((i : ℕ) → b .args .head .tokens ≤ i → getD (c .step-from .result .out) i false ≡ false))
+    × (((i : ℕ) → b .args .head .tokens ≤ i → getD (b .args .t5) i false ≡ false) × ((i : ℕ) → b .args .head .tokens ≤ i → getD (c .step-from .result .out) i false ≡ false))
 flags-known c =
     let b = c .before .before .before .before .before in
     let s = b .args .score .now in
     let e = ap (λ h. h .tokens) (b .pre .0) in (
-      omega (arith, status-few s (b .pre .1 .0) (stateIn (b .args .standing)) (setOf (b .args .t4)) (c .step-from .ensures .0)),
+      omega (arith, status-few s (b .pre .1 .0) (stateIn (b .args .standing)) (setOf (b .args .t5)) (c .step-from .ensures .0)),
       (
         λ i le. b .pre .1 .1 .1 .0 i (omega arith),
-        λ i le. outputs-known s (b .pre .1 .0) (stateIn (b .args .standing)) (setOf (b .args .t4)) (c .step-from .ensures .0) i (omega arith),
+        λ i le. outputs-known s (b .pre .1 .0) (stateIn (b .args .standing)) (setOf (b .args .t5)) (c .step-from .ensures .0) i (omega arith),
       ),
     )
 
@@ -61,7 +61,7 @@ goes-on-requires c κs = search needs
 
 -- the instant is written if its words fit
 fits : (c : tie.Then1) → c .before .before .before .size .result ≤ length (c .before .before .before .before .before .before .before .before .before .before .before .before .before .before .before .args .journal .now)
-fits c = not-stopped (c .before .before .before .before .before .before .before .before .before .before .step-from .result .unlawful) _ _ (ap goesOn (sym (c .before .before .stop-by .ensures)) ∙ sym (c .before .goes-on .ensures) ∙ c .if1 .taken)
+fits c = not-stopped (c .before .before .before .before .before .before .before .before .before .before .step-from .result .unlawful) (c .before .before .before .before .before .before .before .before .before .before .before .before .before .before .before .args .last) _ _ (ap goesOn (sym (c .before .before .stop-by .ensures)) ∙ sym (c .before .goes-on .ensures) ∙ c .if1 .taken) .1
 
 slice-aggregate-write : tie.Need-slice-aggregate-write
 slice-aggregate-write c = let long = told-long (c .before .before .before .before .before .before .before .before .before .before .before .before .before .before .before .before .before) in search needs
@@ -86,8 +86,8 @@ returns : tie.Need-returns
 returns c =
     let b = c .before .before .before .before .before .before .before .before .before .before .before .before .before .before .before .before .before .before .before .before .before in
     let step = c .before .before .before .before .before .before .before .before .before .before .before .before .before .before .before .before .step-from in (
-      took (b .args .score .now) (b .pre .1 .0) (stateIn (b .args .standing)) (setOf (b .args .t4)) (step .result) (step .ensures .0)
-          _ _ _ (c .before .before .before .before .before .before .before .before .before .size .ensures .0 (step .result .status)) (c .before .before .before .before .before .before .before .before .stop-by .ensures) refl
+      took (b .args .score .now) (b .pre .1 .0) (stateIn (b .args .standing)) (setOf (b .args .t5)) (step .result) (step .ensures .0)
+          (b .args .last) _ _ _ (c .before .before .before .before .before .before .before .before .before .size .ensures .0 (step .result .status)) (c .before .before .before .before .before .before .before .before .stop-by .ensures) refl
           (λ q. c .before .before .write .ensures)
           (λ n. absurd (n (goes-not _ (sym (c .before .before .before .before .before .before .before .goes-on .ensures) ∙ c .before .before .before .before .before .before .if1 .taken)))),
       step .ensures .1,
@@ -100,8 +100,8 @@ returns-2 : tie.Need-returns-2
 returns-2 c =
     let b = c .before .before .before .before .before .before .before .before .before .before .before .before .before .before .before in
     let step = c .before .before .before .before .before .before .before .before .before .before .step-from in (
-      took (b .args .score .now) (b .pre .1 .0) (stateIn (b .args .standing)) (setOf (b .args .t4)) (step .result) (step .ensures .0)
-          _ _ _ (c .before .before .before .size .ensures .0 (step .result .status)) (c .before .before .stop-by .ensures) refl
+      took (b .args .score .now) (b .pre .1 .0) (stateIn (b .args .standing)) (setOf (b .args .t5)) (step .result) (step .ensures .0)
+          (b .args .last) _ _ _ (c .before .before .before .size .ensures .0 (step .result .status)) (c .before .before .stop-by .ensures) refl
           (λ q. absurd (not-goes (sym (c .before .goes-on .ensures) ∙ c .if1 .left) q))
           (λ n. refl),
       step .ensures .1,

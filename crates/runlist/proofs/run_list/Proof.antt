@@ -2,8 +2,9 @@
 use mathlib.Core.Path.{_≡_, refl, sym, ap, subst, _∙_}
 use mathlib.Core.Bool.{true, false}
 use mathlib.Core.List.{List, _∷_}
-use Prim.Native.Nat.{ℕ, _+_, _-_, _≤_}
+use Prim.Native.Nat.{ℕ, _+_, _-_, _<_, _≤_}
 use borrow.Author.Needs.{needs}
+use borrow.Author.Tests.{eqb-false}
 use native.Mathlib.Omega.{arith}
 use borrow.Rule.Slice.PartMut.{putMid, same-len-mid}
 use lib.ListN.{length, getD, take, drop, length-drop}
@@ -13,7 +14,7 @@ use Rattle.format.specs.Decode.{sizes, decode}
 use Rattle.format.proofs.Decode.{decode-tokens}
 use Rattle.store.specs.Flags.{setOf}
 use Rattle.lent.specs.Lengths.{noScratch}
-use Rattle.lent.specs.States.{stateOf, asBytes, LawfulState, SameState}
+use Rattle.lent.specs.States.{stateOf, asBytes, instantNumber, lastNumber, LawfulState, SameState}
 use Rattle.lent.proofs.Round.{state-round}
 use Rattle.standing.specs.Standing.{stateIn}
 use Rattle.standing.proofs.Inside.{after-lawful}
@@ -29,12 +30,12 @@ use Rattle.runlist.proofs.run_list.Statement.{statement}
 use Rattle.runlist.proofs.run_list.Tie as tie
 
 abbrev Inv-loop : tie.InvT-loop
-Inv-loop score head inputs journal₀ scratch₀ stands₀ instants₀ at₀ filled₀ journal scratch stands instants at filled =
-    Reading (sizes score .tokens) inputs at × (LawfulState (sizes score .agents) (stateIn stands) × ((length journal ≡ length journal₀) × ((filled ≤ length journal) × ((instants ≤ at)
-    × (((s : List ℕ) → stateOf s ≡ stateIn stands₀ → Half score inputs s journal₀ journal stands instants at filled) × (scratch ≡ noScratch))))))
+Inv-loop score head number inputs journal₀ scratch₀ stands₀ reached₀ instants₀ at₀ filled₀ journal scratch stands reached instants at filled =
+    Reading (sizes score .tokens) inputs at × (LawfulState (sizes score .agents) (stateIn stands) × ((length journal ≡ length journal₀) × ((filled ≤ length journal) × (((instants ≤ at) × (reached ≤ lastNumber))
+    × (((s : List ℕ) → stateOf s ≡ stateIn stands₀ → instantNumber s ≡ reached₀ → Half score inputs s journal₀ journal stands reached instants at filled) × (scratch ≡ noScratch))))))
 
 abbrev μ-loop : tie.MeasureT-loop
-μ-loop score head inputs journal₀ scratch₀ stands₀ instants₀ at₀ filled₀ journal scratch stands instants at filled = length inputs - at
+μ-loop score head number inputs journal₀ scratch₀ stands₀ reached₀ instants₀ at₀ filled₀ journal scratch stands reached instants at filled = length inputs - at
 
 loop-holds : tie.Need-loop-holds Inv-loop μ-loop
 loop-holds c =
@@ -42,7 +43,7 @@ loop-holds c =
     let s = b .args .score .now in
     let j = b .args .journal .now in
     let st = b .args .standing in
-    (reading-none false (sizes s .tokens) (b .args .inputs .now) (b .pre .1 .1 .1 .0), (b .pre .1 .1 .0, (refl, (omega arith, (omega arith, (λ s₀ e. half-none s (b .args .inputs .now) s₀ j st e, b .pre .1 .1 .1 .1))))))
+    (reading-none false (sizes s .tokens) (b .args .inputs .now) (b .pre .1 .1 .1 .0), (b .pre .1 .1 .0, (refl, (omega arith, ((omega arith, omega (arith, b .fits .number)), (λ s₀ e m. half-none s (b .args .inputs .now) s₀ j st (b .args .number) e m, b .pre .1 .1 .1 .1))))))
 
 part-requires : tie.Need-part-requires Inv-loop μ-loop
 part-requires c κs = search needs
@@ -97,16 +98,26 @@ goes-on-requires : tie.Need-goes-on-requires Inv-loop μ-loop
 goes-on-requires c κs = search needs
 
 fits-at : (c : tie.Then1 Inv-loop μ-loop) → c .before .before .before .before .before .before .before .before .before .before .before .before .loop .filled + c .before .before .before .before .before .before .advance .result .bytes ≤ length (c .before .before .before .before .before .before .before .before .before .before .before .before .before .before .before .before .before .args .journal .now)
-fits-at c = omega (arith, took-fits (c .before .before .before .before .before .before .advance .ensures .0) (sym (c .before .goes-on .ensures) ∙ c .if1 .taken), room-long (c .before .before .before .before .before .before), c .before .before .before .before .before .before .before .before .before .before .before .before .loop .inv .1 .1 .0, c .before .before .before .before .before .before .before .before .before .before .before .before .loop .inv .1 .1 .1 .0)
+fits-at c = omega (arith, took-fits (c .before .before .before .before .before .before .advance .ensures .0) (sym (c .before .goes-on .ensures) ∙ c .if1 .taken) .1, room-long (c .before .before .before .before .before .before), c .before .before .before .before .before .before .before .before .before .before .before .before .loop .inv .1 .1 .0, c .before .before .before .before .before .before .before .before .before .before .before .before .loop .inv .1 .1 .1 .0)
+
+-- an instant that is written is not wanted at the last number
+below-last : (c : tie.Then1 Inv-loop μ-loop) → c .before .before .before .before .before .before .before .before .before .before .before .before .loop .reached < lastNumber
+below-last c =
+    let l = c .before .before .before .before .before .before .before .before .before .before .before .before .loop in
+    let n : l .reached ≡ lastNumber → ⊥ = eqb-false (l .reached) lastNumber (took-fits (c .before .before .before .before .before .before .advance .ensures .0) (sym (c .before .goes-on .ensures) ∙ c .if1 .taken) .0) in
+    omega (arith, l .inv .1 .1 .1 .1 .0 .1)
+
+add-reached : tie.Need-add-reached Inv-loop μ-loop
+add-reached c = omega (arith, below-last (c .before))
 
 add-instants : tie.Need-add-instants Inv-loop μ-loop
-add-instants c = omega (arith, next-at (c .before .before .before .before .before .before .before .before .before .before) .some, next-at (c .before .before .before .before .before .before .before .before .before .before) .fits, c .before .before .before .before .before .before .before .before .before .before .before .before .before .loop .inv .1 .1 .1 .1 .0, c .before .before .before .before .before .before .before .before .before .before .before .before .before .before .before .before .before .before .good .1 .1 .1 .0 .0)
+add-instants c = omega (arith, next-at (c .before .before .before .before .before .before .before .before .before .before) .some, next-at (c .before .before .before .before .before .before .before .before .before .before) .fits, c .before .before .before .before .before .before .before .before .before .before .before .before .before .loop .inv .1 .1 .1 .1 .0 .0, c .before .before .before .before .before .before .before .before .before .before .before .before .before .before .before .before .before .before .good .1 .1 .1 .1 .0 .0)
 
 add-at : tie.Need-add-at Inv-loop μ-loop
-add-at c = omega (arith, next-at (c .before .before .before .before .before .before .before .before .before .before) .fits, c .before .before .before .before .before .before .before .before .before .before .before .before .before .before .before .before .before .before .good .1 .1 .1 .0 .0)
+add-at c = omega (arith, next-at (c .before .before .before .before .before .before .before .before .before .before) .fits, c .before .before .before .before .before .before .before .before .before .before .before .before .before .before .before .before .before .before .good .1 .1 .1 .1 .0 .0)
 
 add-filled : tie.Need-add-filled Inv-loop μ-loop
-add-filled c = omega (arith, fits-at (c .before .before), c .before .before .before .before .before .before .before .before .before .before .before .before .before .before .before .before .before .before .before .good .1 .1 .1 .1 .0)
+add-filled c = omega (arith, fits-at (c .before .before), c .before .before .before .before .before .before .before .before .before .before .before .before .before .before .before .before .before .before .before .good .1 .1 .1 .1 .1 .0)
 
 loop-less : tie.Need-loop-less Inv-loop μ-loop
 loop-less c = omega (arith, next-at (c .before .before .before .before .before .before .before .before .before .before .before) .some, next-at (c .before .before .before .before .before .before .before .before .before .before .before) .fits)
@@ -118,7 +129,7 @@ loop-again c =
     let s = b .args .score .now in
     let t = c .before .before .before .before .before .before .before .before .advance in
     let goes : goesOn (t .result .stop) ≡ true = sym (c .before .before .before .goes-on .ensures) ∙ c .before .before .if1 .taken in
-    let long : length (putMid (l .filled) (length (l .journal) - l .filled) (l .journal) (t .last .1 .1 .1 .1 .0)) ≡ length (l .journal) = same-len-mid (l .filled) (length (l .journal) - l .filled) (l .journal) (t .last .1 .1 .1 .1 .0) (t .kept .1 .1 .1 .1 .0) in (
+    let long : length (putMid (l .filled) (length (l .journal) - l .filled) (l .journal) (t .last .1 .1 .1 .1 .1 .0)) ≡ length (l .journal) = same-len-mid (l .filled) (length (l .journal) - l .filled) (l .journal) (t .last .1 .1 .1 .1 .1 .0) (t .kept .1 .1 .1 .1 .1 .0) in (
       next-at (c .before .before .before .before .before .before .before .before .before .before .before) .follows,
       (
         t .ensures .0 .lawful,
@@ -127,14 +138,14 @@ loop-again c =
           (
             omega (arith, fits-at (c .before .before), long, l .inv .1 .1 .0),
             (
-              omega (arith, next-at (c .before .before .before .before .before .before .before .before .before .before .before) .some, l .inv .1 .1 .1 .1 .0),
+              (omega (arith, next-at (c .before .before .before .before .before .before .before .before .before .before .before) .some, l .inv .1 .1 .1 .1 .0 .0), omega (arith, below-last (c .before .before))),
               (
-                λ s₀ e.
-                    subst (λ j. Half s (b .args .inputs .now) s₀ (b .args .journal .now) j (t .result .standing) (l .instants + 1) (l .at + length (c .before .before .before .before .before .before .before .before .before .before .before .before .part .result .now)) (l .filled + t .result .bytes))
+                λ s₀ e m.
+                    subst (λ j. Half s (b .args .inputs .now) s₀ (b .args .journal .now) j (t .result .standing) (l .reached + 1) (l .instants + 1) (l .at + length (c .before .before .before .before .before .before .before .before .before .before .before .before .part .result .now)) (l .filled + t .result .bytes))
                     (sym (put-back (l .journal) _ (l .filled) (l .inv .1 .1 .1 .0)))
-                    (half-more s (b .args .inputs .now) s₀ (b .args .journal .now) (l .journal) (l .stands) (l .instants) (l .at) (l .filled) (l .inv .1 .1 .1 .1 .1 .0 s₀ e)
+                    (half-more s (b .args .inputs .now) s₀ (b .args .journal .now) (l .journal) (l .stands) (l .reached) (l .instants) (l .at) (l .filled) (l .inv .1 .1 .1 .1 .1 .0 s₀ e m)
                     (setOf (c .before .before .before .before .before .before .before .before .before .before .before .tokens-in .result)) (drop (l .at + length (c .before .before .before .before .before .before .before .before .before .before .before .before .part .result .now)) (b .args .inputs .now)) (lists-at (c .before .before .before .before .before .before .before .before)) _ (room-long (c .before .before .before .before .before .before .before .before)) _ (t .result) (t .ensures .0)
-                    (room-is (l .journal) (l .filled)) (goes-not _ goes) (l .at + length (c .before .before .before .before .before .before .before .before .before .before .before .before .part .result .now)) refl (after-round (c .before .before .before .before .before .before .before .before))),
+                    (room-is (l .journal) (l .filled)) (goes-not _ goes) (l .at + length (c .before .before .before .before .before .before .before .before .before .before .before .before .part .result .now)) refl (after-round (c .before .before .before .before .before .before .before .before)) (below-last (c .before .before))),
                 t .ensures .1,
               ),
             ),
@@ -155,11 +166,11 @@ returns c =
     let l = c .before .before .before .before .before .before .before .before .before .before .before .before .loop in
     let s = b .args .score .now in
     let t = c .before .before .before .before .before .before .advance in (
-      λ s₀ e. subst (λ j. RanTo s s₀ (b .args .journal .now) j (runFrom s s₀ (length (b .args .journal .now)) (inputLists (b .args .inputs .now))) (record { stop = t .result .stop; instants = l .instants; standing = l .stands }))
+      λ s₀ e m. subst (λ j. RanTo s s₀ (b .args .journal .now) j (runFrom s s₀ (length (b .args .journal .now)) (inputLists (b .args .inputs .now))) (record { stop = t .result .stop; instants = l .instants; standing = l .stands; number = l .reached }))
           (sym (put-back (l .journal) _ (l .filled) (l .inv .1 .1 .1 .0)))
-          (half-stopped s (b .args .inputs .now) s₀ (b .args .journal .now) (l .journal) (l .stands) (l .instants) (l .at) (l .filled) (l .inv .1 .1 .1 .1 .1 .0 s₀ e)
+          (half-stopped s (b .args .inputs .now) s₀ (b .args .journal .now) (l .journal) (l .stands) (l .reached) (l .instants) (l .at) (l .filled) (l .inv .1 .1 .1 .1 .1 .0 s₀ e m)
           (setOf (c .before .before .before .before .before .before .before .before .before .tokens-in .result)) (drop (l .at + length (c .before .before .before .before .before .before .before .before .before .before .part .result .now)) (b .args .inputs .now)) (lists-at (c .before .before .before .before .before .before)) _ (room-long (c .before .before .before .before .before .before)) _ (t .result) (t .ensures .0)
-          (room-is (l .journal) (l .filled)) (not-goes (sym (c .before .goes-on .ensures) ∙ c .if1 .left)) _ refl refl refl (l .inv .1 .0)),
+          (room-is (l .journal) (l .filled)) (not-goes (sym (c .before .goes-on .ensures) ∙ c .if1 .left)) _ refl refl refl refl (l .inv .1 .0)),
       t .ensures .1,
     )
 
@@ -173,8 +184,8 @@ returns-2 : tie.Need-returns-2 Inv-loop μ-loop
 returns-2 c =
     let b = c .before .before .before .before .before .before in
     let l = c .before .loop in (
-      λ s₀ e. half-ended (b .args .score .now) (b .args .inputs .now) s₀ (b .args .journal .now) (l .journal) (l .stands) (l .instants) (l .at) (l .filled) (l .inv .1 .1 .1 .1 .1 .0 s₀ e)
-          _ refl refl refl (l .inv .1 .0) (reading-end (sizes (b .args .score .now) .tokens) (b .args .inputs .now) (l .at) (omega arith)),
+      λ s₀ e m. half-ended (b .args .score .now) (b .args .inputs .now) s₀ (b .args .journal .now) (l .journal) (l .stands) (l .reached) (l .instants) (l .at) (l .filled) (l .inv .1 .1 .1 .1 .1 .0 s₀ e m)
+          _ refl refl refl refl (l .inv .1 .0) (reading-end (sizes (b .args .score .now) .tokens) (b .args .inputs .now) (l .at) (omega arith)),
       l .inv .1 .1 .1 .1 .1 .1,
     )
 
@@ -192,6 +203,7 @@ run-list-spec =
     part-advance-end
     advance-requires
     goes-on-requires
+    add-reached
     add-instants
     add-at
     add-filled

@@ -1,7 +1,7 @@
 -- `write_standing`: by whether the score is running.
 use mathlib.Core.Path.{_≡_, refl, sym, ap, subst, _∙_}
 use mathlib.Core.Bool.{Bool, true, false, cond}
-use mathlib.Core.List.{[], _∷_}
+use mathlib.Core.List.{[], _∷_, _++_}
 use Prim.Native.Nat.{ℕ, _<_, _≤_}
 use borrow.Author.Needs.{needs}
 use native.Mathlib.Omega.{arith}
@@ -11,20 +11,20 @@ use Rattle.store.specs.Flags.{setOf}
 use Rattle.store.proofs.Flags.{flag-member, setOf-none}
 use Rattle.engine.proofs.Outcomes.{flags-none}
 use Rattle.bits.specs.Bits.{bytesOf}
-use Rattle.lent.specs.States.{runningWord, abortedWord, agentWords, asBytes, LawfulState}
+use Rattle.lent.specs.States.{runningWord, abortedWord, agentWords, numbered, LawfulState}
 use Rattle.standing.specs.declared.Standing.{Standing}
 use Rattle.standing.specs.Standing.{stateIn}
 use Rattle.standing.proofs.Inside.{flags-known}
 use Rattle.standing.proofs.write_standing.Statement.{statement}
 use Rattle.standing.proofs.write_standing.Tie as tie
 
-running-bytes : (s : Standing) → s .running ≡ true → bytesOf (runningWord ∷ agentWords (setOf (s .awake))) ≡ asBytes (stateIn s)
-unfolding stateIn asBytes
-running-bytes s e = sym (ap (λ b. asBytes (cond b (running (setOf (s .awake))) aborted)) e)
+running-bytes : (s : Standing) (n : ℕ) → s .running ≡ true → bytesOf ((runningWord ∷ agentWords (setOf (s .awake))) ++ n ∷ []) ≡ numbered (stateIn s) n
+unfolding stateIn numbered
+running-bytes s n e = sym (ap (λ b. numbered (cond b (running (setOf (s .awake))) aborted) n) e)
 
-aborted-bytes : (s : Standing) → s .running ≡ false → bytesOf (abortedWord ∷ agentWords (setOf (replicate 1024 false))) ≡ asBytes (stateIn s)
-unfolding stateIn asBytes
-aborted-bytes s e = ap (λ l. bytesOf (abortedWord ∷ agentWords l)) (setOf-none 1024) ∙ sym (ap (λ b. asBytes (cond b (running (setOf (s .awake))) aborted)) e)
+aborted-bytes : (s : Standing) (n : ℕ) → s .running ≡ false → bytesOf ((abortedWord ∷ agentWords (setOf (replicate 1024 false))) ++ n ∷ []) ≡ numbered (stateIn s) n
+unfolding stateIn numbered
+aborted-bytes s n e = ap (λ l. bytesOf ((abortedWord ∷ agentWords l) ++ n ∷ [])) (setOf-none 1024) ∙ sym (ap (λ b. numbered (cond b (running (setOf (s .awake))) aborted) n) e)
 
 awake-known : (n : ℕ) (s : Standing) → s .running ≡ true → LawfulState n (stateIn s) → (i : ℕ) → n ≤ i → getD (s .awake) i false ≡ false
 unfolding stateIn LawfulState
@@ -49,7 +49,7 @@ same-length : tie.Need-same-length
 same-length c = search needs
 
 returns : tie.Need-returns
-returns c = c .before .before .write-state .ensures ∙ running-bytes (c .before .before .before .before .before .before .before .args .standing) (c .before .before .before .before .if1 .taken)
+returns c = let a = c .before .before .before .before .before .before .before .args in c .before .before .write-state .ensures ∙ running-bytes (a .standing) (a .number) (c .before .before .before .before .if1 .taken)
 
 write-state-requires-2 : tie.Need-write-state-requires-2
 write-state-requires-2 c κs = (c .before .before .before .before .pre .0, λ i h. none-known i)
@@ -58,7 +58,7 @@ same-length-2 : tie.Need-same-length-2
 same-length-2 c = search needs
 
 returns-2 : tie.Need-returns-2
-returns-2 c = c .before .before .write-state2 .ensures ∙ aborted-bytes (c .before .before .before .before .before .before .before .args .standing) (c .before .before .before .before .if1 .left)
+returns-2 c = let a = c .before .before .before .before .before .before .before .args in c .before .before .write-state2 .ensures ∙ aborted-bytes (a .standing) (a .number) (c .before .before .before .before .if1 .left)
 
 pub write-standing-spec : {M : Type 1} → statement M
 write-standing-spec =

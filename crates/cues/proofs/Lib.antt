@@ -1,0 +1,4 @@
+pub mod Words
+pub mod NumberCounts
+pub mod NumberAside
+pub mod AbortedStays
