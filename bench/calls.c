@@ -8,19 +8,36 @@
 
 enum { LENT_LENGTH = 8, LENT_STATE = 9, LENT_INPUT = 10, KEPT_LENGTH = 12, LENT_SWITCHES = 17 };
 
-/* The numbers 13, 14 and 15 are laid out by their own. */
+/* The numbers 13, 14, 15 and 18 are laid out by their own. */
 static const uint64_t KEPT_FORM = UINT64_C(2) << 61, KEPT_DIFFERS = UINT64_C(3) << 61, KEPT_FULL = UINT64_C(4) << 61;
+static const uint64_t LENT_LAST = UINT64_C(7) << 61;
 
 static const uint32_t RUNNING_WORD = 0xF0000000, ABORTED_WORD = 0xF0000001;
+
+/* The word of a state that has its number. */
+enum { NUMBER_WORD = 1 + AGENTS_MAX / 32 };
 
 struct state {
     int aborted;
     struct agents agents;
+    uint32_t number;
 };
 
 static uint64_t refusal(uint32_t number)
 {
     return UINT64_C(1) << 61 | number;
+}
+
+/* Number 18, with the instants written before it. */
+static uint64_t refusal_at_last(uint64_t written)
+{
+    return LENT_LAST | written;
+}
+
+/* Whether an instant that is wanted now meets number 18. */
+static int is_last(const struct state *state)
+{
+    return state->number == SCORE_LAST_NUMBER;
 }
 
 void take_apart(struct score *score, const uint8_t *bytes, size_t len)
@@ -48,6 +65,7 @@ static int read_state(struct state *state, const struct score *score, const uint
         any |= word;
         beyond |= known >= 32 ? 0 : word >> known;
     }
+    state->number = word_at(bytes, NUMBER_WORD);
     state->aborted = word_0 == ABORTED_WORD;
     if (state->aborted)
         return any == 0;
@@ -60,6 +78,7 @@ static void write_state(uint8_t *bytes, const struct state *state)
     put_word(bytes, 0, state->aborted ? ABORTED_WORD : RUNNING_WORD);
     for (i = 0; i < AGENTS_MAX / 32; i++)
         put_word(bytes, 1 + i, state->agents.words[i]);
+    put_word(bytes, NUMBER_WORD, state->number);
 }
 
 static void read_map(struct tokens *tokens, const uint8_t *bytes)
@@ -150,6 +169,7 @@ static void step(const struct engine *engine, const struct score *score, const s
         state->aborted = 1;
     }
     state->agents = end->awake;
+    state->number++;
 }
 
 uint64_t call_instant(const struct engine *engine, const uint8_t *score_bytes, size_t score_len, uint8_t *state_bytes,
@@ -173,6 +193,8 @@ uint64_t call_instant(const struct engine *engine, const uint8_t *score_bytes, s
     read_map(&input, input_bytes);
     if (has_unknown_token(&input, &score))
         return refusal(LENT_INPUT);
+    if (is_last(&state))
+        return refusal_at_last(0);
     engine->prepare(&score, &index);
     clear(scratch);
     step(engine, &score, &index, &state, &input, scratch, &end);
@@ -259,7 +281,7 @@ static int write_instant(struct room *journal, const uint8_t *inputs, size_t inp
     return 1;
 }
 
-/* Runs a list in its form: the instants written, and whether the journal was full. */
+/* Runs a list in its form: the instants written, and whether the last number was reached or the journal was full. */
 static uint64_t run_list(const struct engine *engine, const struct score *score, struct state *state,
                          const uint8_t *inputs, size_t words, struct room journal, uint8_t *scratch)
 {
@@ -272,6 +294,8 @@ static uint64_t run_list(const struct engine *engine, const struct score *score,
     while (at < words) {
         struct state next = *state;
         size_t behind = read_inputs(&input, inputs, words, at);
+        if (is_last(state))
+            return refusal_at_last(written);
         step(engine, score, &index, &next, &input, scratch, &end);
         output_of(&output, score, &end);
         if (!write_instant(&journal, inputs + 4 * at, 4 * (behind - at), end.status, &output))
@@ -328,7 +352,9 @@ static void start_state(struct state *state, const struct score *score)
     add_agent(&state->agents, root_of(score, 0));
 }
 
-/* Compares a journal in its form with the run: the instants that are alike, and whether one is not. */
+/* Compares a journal in its form with the run, which ends at the last number: the instants that are alike, and whether
+ * one is not.
+ */
 static uint64_t compare_journal(const struct engine *engine, const struct score *score, const uint8_t *journal,
                                 size_t words, uint8_t *scratch)
 {
@@ -340,7 +366,7 @@ static uint64_t compare_journal(const struct engine *engine, const struct score 
     size_t at = 0;
     engine->prepare(score, &index);
     start_state(&state, score);
-    while (at < words) {
+    while (at < words && !is_last(&state)) {
         uint32_t status = word_at(journal, at) & 3;
         size_t outputs = read_inputs(&input, journal, words, at);
         step(engine, score, &index, &state, &input, scratch, &end);
@@ -350,7 +376,7 @@ static uint64_t compare_journal(const struct engine *engine, const struct score 
             return KEPT_DIFFERS | alike;
         alike++;
     }
-    return alike;
+    return at < words ? KEPT_DIFFERS | alike : alike;
 }
 
 uint64_t call_journal_check(const struct engine *engine, const uint8_t *score_bytes, size_t score_len,

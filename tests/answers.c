@@ -1,4 +1,6 @@
-/* answers.c: reads answers, packed here as crates/answer/specs/Answer.antt says, by the functions of the header. */
+/* answers.c: reads answers, packed here as crates/answer/specs/Answer.antt says, and the numbers of states, by the
+ * functions of the header.
+ */
 #include <stdio.h>
 
 #include "score.h"
@@ -46,9 +48,40 @@ static int reads_every_count(void)
     return right;
 }
 
+/* The number of a state is its last four bytes, low byte first, whatever the others hold. */
+static int reads_number(uint32_t number)
+{
+    static const uint8_t others[] = {0x00, 0xA5, 0xFF};
+    uint8_t state[SCORE_STATE_BYTES];
+    size_t i, other;
+    int right = 1;
+    for (other = 0; other < sizeof others; other++) {
+        for (i = 0; i < SCORE_STATE_BYTES - 4; i++)
+            state[i] = others[other];
+        for (; i < SCORE_STATE_BYTES; i++)
+            state[i] = (uint8_t)(number >> 8 * (i % 4));
+        right &= score_state_number(state) == number;
+    }
+    if (!right)
+        printf("number %08lX is read wrongly\n", (unsigned long)number);
+    return right;
+}
+
+/* Each bit alone, all but each bit, and numbers whose bytes all differ. */
+static int reads_numbers(void)
+{
+    int right = reads_number(0) & reads_number(SCORE_LAST_NUMBER) & reads_number(0x01020304)
+              & reads_number(0xFEDCBA98);
+    uint32_t bit;
+    for (bit = 0; bit < 32; bit++)
+        right &= reads_number(UINT32_C(1) << bit) & reads_number(~(UINT32_C(1) << bit));
+    return right;
+}
+
 int main(void)
 {
-    static const uint64_t values[] = {0, 1, 255, 256, 1345, (1 << 24) - 1, UINT64_C(1) << 32, (UINT64_C(1) << 61) - 1};
+    static const uint64_t values[] = {0, 1, 255, 256, 1345, (1 << 24) - 1, 1 << 24, 0x7FFFFFFF, 0x80000000, 0xFFFFFFFE,
+                                      0xFFFFFFFF, UINT64_C(1) << 32, (UINT64_C(1) << 61) - 1};
     uint32_t number, status, count;
     size_t i;
     int right = 1;
@@ -59,9 +92,10 @@ int main(void)
                 right &= reads(layout + values[i] * 256 + number, number, values[i], 0, 0);
         for (number = SCORE_LIST_FORM; number <= SCORE_ROOM; number++)
             right &= reads((number - 11) * layout + values[i], number, values[i], 0, 0);
+        right &= reads(7 * layout + values[i], SCORE_LAST, values[i], 0, 0);
     }
     for (status = SCORE_QUIET; status <= SCORE_ABORTED; status++)
         for (count = 0; count <= SCORE_MAX_AGENTS; count++)
             right &= reads(layout + ((uint64_t)(count * 4 + status) << 32), SCORE_ACCEPTED, 0, status, count);
-    return right & reads_every_count() ? 0 : 1;
+    return right & reads_every_count() & reads_numbers() ? 0 : 1;
 }

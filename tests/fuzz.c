@@ -17,7 +17,7 @@
 
 enum { SCORE, STATE, INPUT, STORE, OUTPUT, SCRATCH, INPUTS, JOURNAL, SWITCHES, DRAFT, PLAIN, BUFFERS };
 enum { CHECK, INSTANT, RUN, JOURNAL_CHECK, SETTINGS, TRANSLATE, FUNCTIONS };
-enum { PAGE = 4096, MOST = 4 * PAGE, FILLER = 0xA5, SECONDS_A_ROUND = 60, ROUNDS_THAT_MEET_ALL = 5000, NUMBERS = 18 };
+enum { PAGE = 4096, MOST = 4 * PAGE, FILLER = 0xA5, SECONDS_A_ROUND = 60, ROUNDS_THAT_MEET_ALL = 5000, NUMBERS = 19 };
 
 #define BIT(number) (1u << (number))
 #define UP_TO(number) (2 * BIT(number) - 1)
@@ -37,10 +37,10 @@ static const struct {
 } functions[FUNCTIONS] = {
     {"score_check", BIT(SCORE), 0, UP_TO(SCORE_CIRCLE)},
     {"score_instant", BIT(SCORE) | BIT(STATE) | BIT(INPUT) | BIT(STORE) | BIT(OUTPUT) | BIT(SCRATCH),
-     BIT(STATE) | BIT(STORE) | BIT(OUTPUT) | BIT(SCRATCH), UP_TO(SCORE_INPUT)},
+     BIT(STATE) | BIT(STORE) | BIT(OUTPUT) | BIT(SCRATCH), UP_TO(SCORE_INPUT) | BIT(SCORE_LAST)},
     {"score_run", BIT(SCORE) | BIT(STATE) | BIT(INPUTS) | BIT(JOURNAL) | BIT(SCRATCH),
      BIT(STATE) | BIT(JOURNAL) | BIT(SCRATCH),
-     UP_TO(SCORE_STATE) | BIT(SCORE_LIST_LENGTH) | BIT(SCORE_LIST_FORM) | BIT(SCORE_ROOM)},
+     UP_TO(SCORE_STATE) | BIT(SCORE_LIST_LENGTH) | BIT(SCORE_LIST_FORM) | BIT(SCORE_ROOM) | BIT(SCORE_LAST)},
     {"score_journal_check", BIT(SCORE) | BIT(JOURNAL) | BIT(SCRATCH), BIT(SCRATCH),
      UP_TO(SCORE_BUFFER) | BIT(SCORE_LIST_LENGTH) | BIT(SCORE_LIST_FORM) | BIT(SCORE_JOURNAL)},
     {"score_settings", BIT(SCORE) | BIT(STATE) | BIT(SWITCHES), 0, UP_TO(SCORE_STATE) | BIT(SCORE_SWITCHES)},
@@ -59,13 +59,26 @@ struct lent {
     uint32_t k;
 };
 
-/* Lengths of a scratch that meet SCORE_BUFFER: none, a byte or more less or more, and those about document 01's. */
-static const size_t scratch_lengths[] = {0, 64, 127, 129, 132, 136, 2047, 2048};
-enum { SCRATCH_LENGTHS = sizeof scratch_lengths / sizeof *scratch_lengths };
+/* Lengths that meet SCORE_BUFFER, of a scratch and of a state: none, a byte or more less or more, and those about
+ * document 01's. How often each was refused, with every other length right.
+ */
+enum { LENGTHS = 8 };
+
+static struct lengths {
+    int buffer;
+    const char *name;
+    size_t wrong[LENGTHS];
+    uint64_t met[FUNCTIONS][LENGTHS];
+} lengths[] = {
+    {SCRATCH, "scratch", {0, 64, 127, 129, 132, 136, 2047, 2048}, {{0}}},
+    {STATE, "state", {0, 128, 131, 132, 133, 135, 137, 140}, {{0}}},
+};
+
+enum { SCRATCH_LENGTHS, STATE_LENGTHS };
 
 static uint8_t *places[BUFFERS];
 static uint64_t random_state, met[FUNCTIONS][NUMBERS], facts_met, watches_met, clashes_met, sent_clashes_met;
-static uint64_t scratch_lengths_met[FUNCTIONS][SCRATCH_LENGTHS];
+static uint64_t last_met[2], stopped_at_last_met, full_at_last_met, full_before_last_met, none_at_last_met;
 static uint64_t settings_met[SCORE_ABORTED + 1], mixed_settings_met;
 
 static void require(int holds, const char *broken)
@@ -107,6 +120,17 @@ static uint32_t tokens_of(const struct bytes *score) { return (word_at(score, 0)
 static uint32_t agents_of(const struct bytes *score) { return (word_at(score, 0) >> 8 & 0x3FF) + 1; }
 
 static uint32_t procedures_of(const struct bytes *score) { return (word_at(score, 0) >> 18 & 0x3F) + 1; }
+
+static int fits(const struct bytes *state) { return state->len == SCORE_STATE_BYTES; }
+
+static int is_last(const struct bytes *state) { return score_state_number(state->at) == SCORE_LAST_NUMBER; }
+
+/* Gives a state of the right length another number. */
+static void set_number(struct bytes *state, uint32_t number)
+{
+    state->len -= SCORE_WORD_BYTES;
+    push(state, number);
+}
 
 static int has_token(const struct bytes *map, uint32_t token) { return map->at[token / 8] >> token % 8 & 1; }
 
@@ -186,7 +210,7 @@ static unsigned differing(const struct lent *one, const struct lent *other)
 /* The buffers that a call may change when it answers the number. */
 static unsigned changed_by(int function, uint32_t number)
 {
-    if (number == SCORE_ACCEPTED || number == SCORE_ROOM)
+    if (number == SCORE_ACCEPTED || number == SCORE_ROOM || (number == SCORE_LAST && function == RUN))
         return functions[function].written;
     return number == SCORE_JOURNAL ? BIT(SCRATCH) : 0;
 }
@@ -198,27 +222,30 @@ static void refill(struct bytes *scratch)
     memset(scratch->at, fillers[below(sizeof fillers)], scratch->len);
 }
 
-/* Whether every length but that of the scratch is what it should be. */
-static int others_fit(unsigned used, const struct bytes *of)
+/* The buffers lent that have another length than they should. */
+static unsigned misfits(unsigned used, const struct bytes *of)
 {
-    int i;
-    for (i = INPUT; i <= OUTPUT; i++)
-        if (used & BIT(i) && of[i].len != SCORE_MAP_BYTES)
-            return 0;
-    return !(used & BIT(STATE)) || of[STATE].len == SCORE_STATE_BYTES;
+    static const size_t right[BUFFERS] = {[STATE] = SCORE_STATE_BYTES, [INPUT] = SCORE_MAP_BYTES,
+                                          [STORE] = SCORE_MAP_BYTES, [OUTPUT] = SCORE_MAP_BYTES,
+                                          [SCRATCH] = SCORE_SCRATCH_BYTES, [PLAIN] = SCORE_MAX_BYTES};
+    unsigned misfits = 0, i;
+    for (i = 0; i < BUFFERS; i++)
+        if (used & BIT(i) && right[i] && of[i].len != right[i])
+            misfits |= BIT(i);
+    return misfits;
 }
 
-/* The scratch of a call that works in it has its length, and one that is refused for it alone has not. */
-static void require_scratch_length(int function, const struct bytes *of, uint32_t number)
+/* A call that gets past SCORE_BUFFER has buffers of the right lengths, and one that is refused by it has not. */
+static void require_lengths(int function, const struct bytes *of, uint32_t number)
 {
-    unsigned used = functions[function].lent;
-    int i, fits = of[SCRATCH].len == SCORE_SCRATCH_BYTES;
-    require(fits || !(changed_by(function, number) & BIT(SCRATCH)), "a scratch of another length is taken");
-    if (number != SCORE_BUFFER || !(used & BIT(SCRATCH)) || !others_fit(used, of))
-        return;
-    require(!fits, "a scratch of the right length is refused");
-    for (i = 0; i < SCRATCH_LENGTHS; i++)
-        scratch_lengths_met[function][i] += of[SCRATCH].len == scratch_lengths[i];
+    unsigned wrong = misfits(functions[function].lent, of), i, k;
+    int is_past = number == SCORE_ACCEPTED || number > SCORE_BUFFER;
+    require(!is_past || !wrong, "a buffer of another length is taken");
+    require(number != SCORE_BUFFER || wrong, "buffers of the right lengths are refused");
+    for (i = 0; i < sizeof lengths / sizeof *lengths; i++)
+        for (k = 0; k < LENGTHS; k++)
+            lengths[i].met[function][k] += number == SCORE_BUFFER && wrong == BIT(lengths[i].buffer)
+                                        && of[lengths[i].buffer].len == lengths[i].wrong[k];
 }
 
 /* Makes a call twice, on buffers that lie otherwise and a scratch that holds something else, and holds it to what every
@@ -238,7 +265,7 @@ static uint64_t judged(int function, struct lent *lent)
     require(call(function, &again, ~ends) == answer, "the same call again answers something else");
     number = score_answer_number(answer);
     require(number < NUMBERS && functions[function].numbers & BIT(number), "a number that the call may not answer");
-    require_scratch_length(function, lent->of, number);
+    require_lengths(function, lent->of, number);
     changed = changed_by(function, number);
     require(!(differing(&before, lent) & ~changed), "a buffer was changed that stays as it was");
     if (!(changed & BIT(SCRATCH))) {
@@ -299,12 +326,72 @@ static void require_maps(const struct bytes *of, uint32_t status)
     }
 }
 
-/* An instant. Where it is accepted, so is another one on the state that it left. */
+/* 18 is met at the last number, where nothing is accepted; an accepted instant adds one to the number. */
+static void require_number(const struct bytes *before, const struct bytes *after, uint64_t answer)
+{
+    uint32_t number = score_answer_number(answer);
+    if (number == SCORE_LAST) {
+        require(is_last(before), "18 before the last number");
+        require(!score_answer_value(answer), "18 of an instant has a value");
+        last_met[before->at[0] == 1]++;
+    } else if (number == SCORE_ACCEPTED) {
+        require(!is_last(before), "an instant is played at the last number");
+        require(score_state_number(after->at) == score_state_number(before->at) + 1, "an instant does not add one");
+    }
+}
+
+/* A number far from the last or near it. */
+static uint32_t any_number(void)
+{
+    switch (below(4)) {
+    case 0: return below(3);
+    case 1: return SCORE_LAST_NUMBER - below(8);
+    case 2: return (UINT32_C(0x100) << 8 * below(3)) - 1 - below(4);
+    default: return (uint32_t)random_number();
+    }
+}
+
+/* The same instant at another number. What is refused but for its number is refused as it was; else it is 18 at the
+ * last number, and at any other one it is accepted and leaves the same, the number aside.
+ */
+static void require_at_other_number(const struct lent *before, const struct lent *after, uint64_t answer)
+{
+    static struct lent other;
+    uint64_t other_answer;
+    uint32_t number = score_answer_number(answer), other_number = one_in(2) ? SCORE_LAST_NUMBER : any_number();
+    if (!fits(&before->of[STATE]))
+        return;
+    other = *before;
+    set_number(&other.of[STATE], other_number);
+    other_answer = judged(INSTANT, &other);
+    if (number != SCORE_ACCEPTED && number != SCORE_LAST) {
+        require(other_answer == answer, "an instant is refused otherwise at another number");
+    } else if (other_number == SCORE_LAST_NUMBER) {
+        require(score_answer_number(other_answer) == SCORE_LAST, "18 is not met at the last number");
+    } else if (number == SCORE_LAST) {
+        require(!score_answer_number(other_answer), "18 is met where something else is wrong");
+    } else {
+        require(other_answer == answer, "an instant has another answer at another number");
+        require(score_state_number(other.of[STATE].at) == other_number + 1, "an instant does not add one");
+        set_number(&other.of[STATE], score_state_number(after->of[STATE].at));
+        require(!differing(&other, after), "an instant leaves other bytes at another number");
+    }
+}
+
+/* An instant. Where it is accepted, so is another one on the state that it left, but at the last number. Of an aborted
+ * state only the number changes.
+ */
 static uint64_t judged_instant(struct lent *lent)
 {
+    static struct bytes before;
     static struct lent next;
-    uint64_t answer = judged(INSTANT, lent), next_answer;
-    uint32_t status = score_answer_status(answer), count = score_answer_count(answer);
+    uint64_t answer, next_answer;
+    uint32_t status, count;
+    before = lent->of[STATE];
+    answer = judged(INSTANT, lent);
+    status = score_answer_status(answer);
+    count = score_answer_count(answer);
+    require_number(&before, &lent->of[STATE], answer);
     if (score_answer_number(answer))
         return answer;
     require(status <= SCORE_ABORTED, "a status that there is not");
@@ -313,8 +400,13 @@ static uint64_t judged_instant(struct lent *lent)
     require_maps(lent->of, status);
     next = *lent;
     next_answer = judged(INSTANT, &next);
-    require(!score_answer_number(next_answer), "the state that an instant left is refused");
-    require(status != SCORE_ABORTED || next_answer == answer, "an aborted score plays on");
+    require_number(&lent->of[STATE], &next.of[STATE], next_answer);
+    require(!score_answer_number(next_answer) || is_last(&lent->of[STATE]), "the state of an instant is refused");
+    if (status == SCORE_ABORTED && !score_answer_number(next_answer)) {
+        require(next_answer == answer, "an aborted score plays on");
+        set_number(&next.of[STATE], score_state_number(lent->of[STATE].at));
+        require(same(&next.of[STATE], &lent->of[STATE]), "of an aborted state more than the number changes");
+    }
     return answer;
 }
 
@@ -353,8 +445,24 @@ static void require_silent_clashes(const struct bytes *journal, size_t len)
     }
 }
 
-/* A run's instants are those that are played one by one: the same state and journal, and where the run was stopped the
- * next instant has no room. The bytes that the run wrote.
+/* Where a run was stopped by 15 the next instant, which starts at a word, has a number and no room; by 18 it has no
+ * number, and may have no room either. The instants before it are in the journal.
+ */
+static void require_stopped(struct lent *one, size_t at, struct bytes *journal, size_t room, uint32_t number)
+{
+    uint32_t at_number = score_state_number(one->of[STATE].at);
+    require(number != SCORE_ROOM || at_number != SCORE_LAST_NUMBER, "15 is answered where 18 is due");
+    require(number != SCORE_LAST || at_number == SCORE_LAST_NUMBER, "a run is stopped before the last number");
+    stopped_at_last_met += number == SCORE_LAST && journal->len > 0;
+    set_number(&one->of[STATE], 0);
+    play(one, at, journal);
+    require(number != SCORE_ROOM || journal->len > room, "the run stopped with room for the next instant");
+    full_at_last_met += number == SCORE_LAST && journal->len > room;
+    full_before_last_met += number == SCORE_ROOM && at_number == SCORE_LAST_NUMBER - 1;
+}
+
+/* A run's instants are those that are played one by one: the same journal and state, whose number has grown by as many.
+ * The bytes that the run wrote.
  */
 static size_t require_run(const struct lent *before, const struct lent *after, uint64_t answer)
 {
@@ -362,6 +470,7 @@ static size_t require_run(const struct lent *before, const struct lent *after, u
     static struct bytes journal;
     const struct bytes *old = &before->of[JOURNAL], *new = &after->of[JOURNAL];
     uint64_t written = score_answer_value(answer), i;
+    uint32_t first = score_state_number(before->of[STATE].at), number = score_answer_number(answer);
     size_t at = 0, words = before->of[INPUTS].len / 4, len;
     one = *before;
     one.of[INPUT].len = one.of[STORE].len = one.of[OUTPUT].len = SCORE_MAP_BYTES;
@@ -370,14 +479,38 @@ static size_t require_run(const struct lent *before, const struct lent *after, u
         at = play(&one, at, &journal);
     len = journal.len;
     require_silent_clashes(new, len <= new->len ? len : new->len);
-    require(i == written && (at < words) == (score_answer_number(answer) == SCORE_ROOM), "not the list's instants");
+    require(i == written && (at < words) == (number != SCORE_ACCEPTED), "not the list's instants");
+    require(score_state_number(after->of[STATE].at) == first + written, "a run does not add the instants written");
     require(same(&one.of[STATE], &after->of[STATE]), "the run leaves another state than its instants");
     require(len <= new->len && !memcmp(journal.at, new->at, len), "the journal does not show the instants");
     require(!memcmp(old->at + len, new->at + len, new->len - len), "the journal was written beyond the instants");
     if (at < words)
-        play(&one, at, &journal);
-    require(at == words || journal.len > new->len, "the run stopped with room for the next instant");
+        require_stopped(&one, at, &journal, new->len, number);
+    none_at_last_met += words == 0 && first == SCORE_LAST_NUMBER;
     return len;
+}
+
+/* The same run with few instants left before the last number: where they are fewer than it wrote, or as many and it was
+ * stopped after them, it is stopped there by 18; else all is as it was.
+ */
+static void require_run_to_last(const struct lent *before, uint64_t answer)
+{
+    static struct lent other, after;
+    uint64_t written = score_answer_value(answer), left = below(written + 2), other_answer;
+    uint32_t number = score_answer_number(answer);
+    if (number == SCORE_LAST && left > written)
+        return;
+    other = *before;
+    set_number(&other.of[STATE], SCORE_LAST_NUMBER - (uint32_t)left);
+    after = other;
+    other_answer = judged(RUN, &after);
+    if (left < written || (left == written && number != SCORE_ACCEPTED)) {
+        require(score_answer_number(other_answer) == SCORE_LAST, "a run is not stopped at the last number");
+        require(score_answer_value(other_answer) == left, "18 counts other instants than were written");
+    } else {
+        require(other_answer == answer, "a run has another answer at another number");
+    }
+    (void)require_run(&other, &after, other_answer);
 }
 
 /* One of the agents close below. */
@@ -447,7 +580,7 @@ static void make_set(struct bytes *set, size_t len, size_t flags, uint32_t limit
     set->len = len;
 }
 
-/* The start state, or any other, which is at times an aborted one. */
+/* The start state, or any other, at any number, which is at times an aborted one. */
 static void make_state(struct bytes *state, const struct bytes *score, int is_start)
 {
     uint32_t root = word_at(score, 2 + agents_of(score)) & 0x3FF;
@@ -457,6 +590,23 @@ static void make_state(struct bytes *state, const struct bytes *score, int is_st
     state->at[3] = 0xF0;
     if (is_start)
         state->at[4 + root / 8] |= (uint8_t)BIT(root % 8);
+    else
+        set_number(state, any_number());
+}
+
+/* Cuts bytes off, or puts any others behind. */
+static void resize(struct bytes *bytes, size_t len)
+{
+    while (bytes->len < len)
+        bytes->at[bytes->len++] = (uint8_t)random_number();
+    bytes->len = len;
+}
+
+/* At times gives a buffer a length that is refused. */
+static void spoil_length(struct bytes *of, const struct lengths *lengths)
+{
+    if (one_in(12))
+        resize(&of[lengths->buffer], lengths->wrong[below(LENGTHS)]);
 }
 
 static void make_list(struct bytes *list, uint32_t tokens)
@@ -472,10 +622,11 @@ static void make_list(struct bytes *list, uint32_t tokens)
     }
 }
 
-/* Some distinct tokens in any order, few as a rule, and as a rule not more to be pressed. */
+/* Some distinct tokens in any order, few as a rule and seldom too many, and as a rule not more to be pressed. */
 static void make_switches(struct bytes *switches, uint32_t tokens, uint32_t *k)
 {
-    uint32_t most = one_in(16) ? SCORE_MAX_SWITCHES : 6, count = below((tokens < most ? tokens : most) + 1), i, other;
+    uint32_t most = one_in(16) ? SCORE_MAX_SWITCHES + 4 : 6, i, other;
+    uint32_t count = below((tokens < most ? tokens : most) + 1);
     uint8_t listed;
     for (i = 0; i < tokens; i++)
         switches->at[i] = (uint8_t)i;
@@ -499,7 +650,9 @@ static void make(struct lent *lent, int from_start)
     make_list(&of[INPUTS], tokens_of(&of[SCORE]));
     make_random(&of[STORE], SCORE_MAP_BYTES);
     make_random(&of[OUTPUT], SCORE_MAP_BYTES);
-    make_random(&of[SCRATCH], one_in(12) ? scratch_lengths[below(SCRATCH_LENGTHS)] : SCORE_SCRATCH_BYTES);
+    make_random(&of[SCRATCH], SCORE_SCRATCH_BYTES);
+    spoil_length(of, &lengths[SCRATCH_LENGTHS]);
+    spoil_length(of, &lengths[STATE_LENGTHS]);
     make_random(&of[JOURNAL], below(one_in(4) ? MOST : 200));
     make_switches(&of[SWITCHES], tokens_of(&of[SCORE]), &lent->k);
     make_random(&of[PLAIN], SCORE_MAX_BYTES);
@@ -656,6 +809,8 @@ static void judge_translated_run(const struct lent *made, const struct lent *aft
     make_state(&lent.of[STATE], &lent.of[SCORE], 1);
     require(judged(RUN, &lent) == answer, "the run of a translation answers something else");
     require(same(&lent.of[JOURNAL], &after->of[JOURNAL]), "the run of a translation has another journal");
+    require(score_state_number(lent.of[STATE].at) == score_state_number(after->of[STATE].at),
+            "the run of a translation leaves another number");
 }
 
 /* Whether the switches, or how many of them are pressed, meet SCORE_SWITCHES. */
@@ -670,7 +825,7 @@ static int are_wrong(const struct bytes *switches, uint32_t tokens, uint32_t k)
     return 0;
 }
 
-/* The answer of an instant on the same score and state that has a set of the switches as its input. */
+/* The answer of an instant on the same score and state, at number 0, that has a set of the switches as its input. */
 static uint64_t answer_of_setting(const struct lent *lent, uint32_t set)
 {
     static struct lent one;
@@ -678,6 +833,8 @@ static uint64_t answer_of_setting(const struct lent *lent, uint32_t set)
     size_t i;
     one.of[SCORE] = lent->of[SCORE];
     one.of[STATE] = lent->of[STATE];
+    if (fits(&one.of[STATE]))
+        set_number(&one.of[STATE], 0);
     one.of[INPUT].len = one.of[STORE].len = one.of[OUTPUT].len = SCORE_MAP_BYTES;
     one.of[SCRATCH].len = SCORE_SCRATCH_BYTES;
     memset(one.of[INPUT].at, 0, SCORE_MAP_BYTES);
@@ -727,12 +884,24 @@ static void reverse(struct bytes *bytes)
     }
 }
 
+/* The number of the state does not matter. */
+static void require_settings_at_other_number(const struct lent *lent, uint64_t answer)
+{
+    static struct lent other;
+    if (!fits(&lent->of[STATE]))
+        return;
+    other = *lent;
+    set_number(&other.of[STATE], any_number());
+    require(judged(SETTINGS, &other) == answer, "settings have another answer at another number");
+}
+
 /* A count of settings turns down score and state as an instant does, and the switches exactly where they are wrong. */
 static void judge_settings(struct lent *lent)
 {
     enum { FEW = 4 };
     uint64_t of_none = answer_of_setting(lent, 0), answer = judged(SETTINGS, lent);
     uint32_t number = score_answer_number(answer);
+    require_settings_at_other_number(lent, answer);
     if (score_answer_number(of_none)) {
         require(answer == of_none, "settings turn down a score or state otherwise than an instant");
         return;
@@ -765,15 +934,18 @@ static void play_round(void)
     judge_draft(&lent);
     lent = made;
     checked = judged(CHECK, &lent);
-    require_check(checked, judged_instant(&lent));
+    answer = judged_instant(&lent);
+    require_check(checked, answer);
+    require_at_other_number(&made, &lent, answer);
     lent = made;
     answer = judged(RUN, &lent);
     require_check(checked, answer);
     number = score_answer_number(answer);
-    if (number == SCORE_ACCEPTED || number == SCORE_ROOM) {
+    if (number == SCORE_ACCEPTED || number == SCORE_ROOM || number == SCORE_LAST) {
         if (from_start)
             judge_translated_run(&made, &lent, answer);
         lent.of[JOURNAL].len = require_run(&made, &lent, answer);
+        require_run_to_last(&made, answer);
         if (from_start)
             judge_journal(&lent, score_answer_value(answer), &other.of[INPUTS]);
     }
@@ -785,15 +957,17 @@ static void play_round(void)
     require_check(checked, judged(JOURNAL_CHECK, &lent));
 }
 
-/* Prints how often each length of a scratch was refused, by each function that is lent one. */
-static void report_scratch_lengths(uint64_t rounds)
+/* Prints how often each length of a buffer was refused, by each function that is lent one. */
+static void report_lengths(const struct lengths *of, uint64_t rounds)
 {
     int function, i;
-    for (function = INSTANT; function <= JOURNAL_CHECK; function++) {
-        printf("%s, scratch refused:", functions[function].name);
-        for (i = 0; i < SCRATCH_LENGTHS; i++) {
-            printf(" %u bytes: %" PRIu64, (unsigned)scratch_lengths[i], scratch_lengths_met[function][i]);
-            require(scratch_lengths_met[function][i] || rounds < ROUNDS_THAT_MEET_ALL, ", which is never met");
+    for (function = 0; function < FUNCTIONS; function++) {
+        if (!(functions[function].lent & BIT(of->buffer)))
+            continue;
+        printf("%s, %s refused:", functions[function].name, of->name);
+        for (i = 0; i < LENGTHS; i++) {
+            printf(" %u bytes: %" PRIu64, (unsigned)of->wrong[i], of->met[function][i]);
+            require(of->met[function][i] || rounds < ROUNDS_THAT_MEET_ALL, ", which is never met");
         }
         printf("\n");
     }
@@ -829,7 +1003,14 @@ static void report(uint64_t rounds)
     report_met("counts with settings that clash", settings_met[SCORE_CLASH], rounds);
     report_met("counts with settings that abort", settings_met[SCORE_ABORTED], rounds);
     report_met("counts with settings quiet and not", mixed_settings_met, rounds);
-    report_scratch_lengths(rounds);
+    report_met("instants at the last number of running states", last_met[0], rounds);
+    report_met("instants at the last number of aborted states", last_met[1], rounds);
+    report_met("runs over no instants at the last number", none_at_last_met, rounds);
+    report_met("runs that wrote instants and then met 18", stopped_at_last_met, rounds);
+    report_met("runs that met 18 where there was no room either", full_at_last_met, rounds);
+    report_met("runs that met 15 at the instant before 18", full_before_last_met, rounds);
+    report_lengths(&lengths[SCRATCH_LENGTHS], rounds);
+    report_lengths(&lengths[STATE_LENGTHS], rounds);
 }
 
 static void play_rounds(uint64_t seed, uint64_t first, uint64_t rounds, uint64_t *round)

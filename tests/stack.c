@@ -120,13 +120,20 @@ static void build_small(void)
     score_len = SCORE_WORD_BYTES * word;
 }
 
-static void start(void)
+/* The start state, but at a number. */
+static void start_at(uint32_t number)
 {
     uint32_t agents = (word_at(score, 0) >> 8 & 0x3FF) + 1;
     uint32_t root = word_at(score, 2 + agents) & 0x3FF;
     memset(state, 0, sizeof state);
     put_word(state, 0, SCORE_STATE_RUNNING);
     state[4 + root / 8] = (uint8_t)(1 << root % 8);
+    put_word(state, SCORE_STATE_BYTES / SCORE_WORD_BYTES - 1, number);
+}
+
+static void start(void)
+{
+    start_at(0);
 }
 
 static void check(void)
@@ -202,6 +209,15 @@ static int settings_held(size_t count, uint32_t k)
     return held("score_settings", used_by(settings), SCORE_SETTINGS_STACK_BYTES);
 }
 
+/* An instant and a run that are wanted at the last number. */
+static int last_held(void)
+{
+    int right;
+    start_at(SCORE_LAST_NUMBER);
+    right = held_at(SCORE_LAST, "score_instant", used_by(instant), SCORE_INSTANT_STACK_BYTES);
+    return right & held_at(SCORE_LAST, "score_run", used_by(run), SCORE_RUN_STACK_BYTES);
+}
+
 /* The input is token 0, the clash, which answers all that waits, or token 1, with which outputs are sent. */
 static int all_held(uint32_t token)
 {
@@ -212,11 +228,12 @@ static int all_held(uint32_t token)
     input[0] = (uint8_t)(1 << token);
     right &= held("score_instant", used_by(instant), SCORE_INSTANT_STACK_BYTES);
     right &= score_answer_status(answer) == (token == 0 ? SCORE_CLASH : SCORE_QUIET);
-    start();
+    start_at(SCORE_LAST_NUMBER - 1);
     put_word(inputs, 0, SCORE_INSTANT_WORD);
     put_word(inputs, 1, SCORE_INPUT_WORD | token);
     memset(journal, 0, sizeof journal);
     right &= held("score_run", used_by(run), SCORE_RUN_STACK_BYTES);
+    right &= score_state_number(state) == SCORE_LAST_NUMBER && last_held();
     for (journal_len = 0; journal_len < sizeof journal && word_at(journal, journal_len / SCORE_WORD_BYTES);)
         journal_len += SCORE_WORD_BYTES;
     right &= held("score_journal_check", used_by(journal_check), SCORE_JOURNAL_CHECK_STACK_BYTES);

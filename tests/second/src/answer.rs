@@ -28,6 +28,8 @@ const SETTINGS_LAYOUT: u64 = 5;
 const SETTINGS_BITS: u32 = 14;
 
 /// The numbers whose value may be as large as a buffer's count of words have layouts of their own.
+const LAST: u32 = 18;
+const LAST_LAYOUT: u32 = 7;
 const WIDE: RangeInclusive<u32> = 13..=15;
 const FIRST_WIDE: u32 = *WIDE.start();
 const FIRST_WIDE_LAYOUT: u32 = 2;
@@ -36,6 +38,14 @@ impl Answer {
     pub fn number(self) -> u32 {
         match self {
             Answer::Refused { number, .. } => number,
+            _ => 0,
+        }
+    }
+
+    /// The instants that a run wrote that answers so, also where it was then stopped.
+    pub fn written(self) -> u64 {
+        match self {
+            Answer::Accepted(written) | Answer::Refused { number: 15 | LAST, value: written } => written,
             _ => 0,
         }
     }
@@ -51,6 +61,7 @@ impl Answer {
             Answer::Refused { number, value } if WIDE.contains(&number) => {
                 u64::from(number - FIRST_WIDE + FIRST_WIDE_LAYOUT) << LAYOUT | value
             }
+            Answer::Refused { number: LAST, value } => u64::from(LAST_LAYOUT) << LAYOUT | value,
             Answer::Refused { number, value } => 1 << LAYOUT | value << 8 | u64::from(number),
         }
     }
@@ -65,6 +76,7 @@ impl Answer {
             }
             1 => refused((packed & 0xFF) as u32, packed >> 8 & 0xFF_FFFF),
             5 => Answer::Settings([0, 1, 2].map(|status| (packed >> (SETTINGS_BITS * status) & 0x3FFF) as u32)),
+            LAST_LAYOUT => refused(LAST, wide),
             layout => refused(layout + FIRST_WIDE - FIRST_WIDE_LAYOUT, wide),
         }
     }

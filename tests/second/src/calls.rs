@@ -1,5 +1,8 @@
 //! The calls over lent buffers: their answers, and what each buffer holds after them.
 
+#[cfg(test)]
+mod tests;
+
 use crate::answer::{refused, Answer, ACCEPTED};
 use crate::decoded::{Decoded, Token};
 use crate::engine::{self, End};
@@ -107,25 +110,33 @@ struct Instant {
     scratch: Scratch,
 }
 
-fn instant(score: &Decoded, state: &State, inputs: &[Token], random: &mut Random) -> Instant {
-    let State::Running(agents) = state else { return aborted(Scratch::cleared()) };
+/// The next instant, or nothing where it is wanted at the last number.
+fn instant(score: &Decoded, state: &State, inputs: &[Token], random: &mut Random) -> Option<Instant> {
+    let number = state.number.checked_add(1)?;
+    Some(numbered_instant(score, &state.awake, number, inputs, random))
+}
+
+/// An instant after which so many have been run.
+fn numbered_instant(score: &Decoded, awake: &Awake, number: u32, inputs: &[Token], random: &mut Random) -> Instant {
+    let Awake::Running(agents) = awake else { return aborted(number, Scratch::cleared()) };
     let agents: Vec<_> = agents.iter().copied().collect();
     let order = engine::finished(score, &agents, inputs, random);
     let (end, scratch) = (order.end(), order.scratch);
     let status = end.status();
-    let End::Quiet { store, awake, .. } = end else { return aborted(scratch) };
+    let End::Quiet { store, awake, .. } = end else { return aborted(number, scratch) };
     Instant {
         status,
         count: scratch.count(),
         output: engine::output(&store, &score.ports),
         store: (0..score.tokens).filter(|&token| store[token]).collect(),
-        next: State::Running(awake.into_iter().collect()),
+        next: State { awake: Awake::Running(awake.into_iter().collect()), number },
         scratch,
     }
 }
 
-fn aborted(scratch: Scratch) -> Instant {
-    Instant { status: 2, count: 0, store: vec![], output: vec![], next: State::Aborted, scratch }
+fn aborted(number: u32, scratch: Scratch) -> Instant {
+    let next = State { awake: Awake::Aborted, number };
+    Instant { status: 2, count: 0, store: vec![], output: vec![], next, scratch }
 }
 
 /// Whether a next state would meet number 9.
@@ -148,7 +159,7 @@ fn answer_instant(lent: &mut InstantLent, random: &mut Random) -> Result<Answer,
     if inputs.iter().any(|&token| token >= score.tokens) {
         return Err(refused(10, 0));
     }
-    let instant = instant(&score, &state, &inputs, random);
+    let instant = instant(&score, &state, &inputs, random).ok_or(refused(18, 0))?;
     lent.scratch.fill(0);
     if meets_9(&score, &instant.next) {
         return Err(refused(11, 0));
@@ -200,7 +211,7 @@ fn answer_run(lent: &mut RunLent, random: &mut Random) -> Result<Answer, Answer>
     lent.scratch.fill(0);
     let (mut written, mut bytes_written) = (0, 0);
     for inputs in inputs(&lent.inputs) {
-        let instant = instant(&score, &state, &inputs, random);
+        let instant = instant(&score, &state, &inputs, random).ok_or(refused(18, written))?;
         if meets_9(&score, &instant.next) {
             return Err(refused(11, 0));
         }
@@ -223,7 +234,7 @@ pub fn journal(score: &Decoded, list: &[Vec<Token>], random: &mut Random) -> Vec
     let mut state = State::start(score);
     let mut instants = Vec::new();
     for inputs in list {
-        let instant = instant(score, &state, inputs, random);
+        let instant = instant(score, &state, inputs, random).expect("the list is short");
         instants.push(instant_bytes(instant.status, inputs, &instant.output));
         state = instant.next;
     }
@@ -235,7 +246,7 @@ pub fn bits_of_instants(score: &Decoded, state: &[u8], list: &[Vec<Token>], rand
     let mut state = State::read(score, state).expect("the state is lawful");
     let mut bits = Vec::new();
     for inputs in list {
-        let instant = instant(score, &state, inputs, random);
+        let instant = instant(score, &state, inputs, random).expect("the last number is far");
         bits.push(instant.scratch.bytes());
         state = instant.next;
     }
@@ -253,15 +264,19 @@ fn answer_journal_check(lent: &mut JournalCheckLent, random: &mut Random) -> Res
     check_lengths(&[(&lent.scratch, SCRATCH_BYTES)])?;
     check_form(Kept::Journal, &lent.journal, &score)?;
     lent.scratch.fill(0);
-    let mut state = State::start(&score);
+    answer_journal(&score, State::start(&score), &lent.journal, random)
+}
+
+/// Compares a journal in its form with what a run from a state writes, which is nothing at the last number.
+fn answer_journal(score: &Decoded, mut state: State, journal: &[u8], random: &mut Random) -> Result<Answer, Answer> {
     let mut read = 0;
-    for (words, inputs) in instants(&lent.journal).into_iter().zip(inputs(&lent.journal)) {
-        let instant = instant(&score, &state, &inputs, random);
-        if meets_9(&score, &instant.next) {
+    for (words, inputs) in instants(journal).into_iter().zip(inputs(journal)) {
+        let instant = instant(score, &state, &inputs, random).ok_or(refused(14, read))?;
+        if meets_9(score, &instant.next) {
             return Err(refused(11, 0));
         }
         let bytes = instant_bytes(instant.status, &inputs, &instant.output);
-        if bytes != lent.journal[4 * words.start..4 * words.end] {
+        if bytes != journal[4 * words.start..4 * words.end] {
             return Err(refused(14, read));
         }
         read += 1;
@@ -283,7 +298,7 @@ fn answer_settings(lent: &SettingsLent, random: &mut Random) -> Result<Answer, A
         return Err(refused(17, 0));
     }
     let switches: Vec<Token> = lent.switches.iter().map(|&token| token.into()).collect();
-    Ok(Answer::Settings(settings::counts(&score, &state, &switches, lent.k as usize, random)))
+    Ok(Answer::Settings(settings::counts(&score, &state.awake, &switches, lent.k as usize, random)))
 }
 
 pub fn translate_call(lent: &TranslateLent) -> (Answer, TranslateLent) {

@@ -6,7 +6,7 @@ use crate::words::to_bytes;
 use std::collections::BTreeSet;
 use std::ops::Range;
 
-pub const STATE_BYTES: usize = 132;
+pub const STATE_BYTES: usize = 136;
 pub const MAP_BYTES: usize = 32;
 pub const SCRATCH_BYTES: usize = 128;
 pub const PLAIN_BYTES: usize = 5384;
@@ -14,37 +14,70 @@ pub const PLAIN_BYTES: usize = 5384;
 pub const RUNNING: u32 = 0xF000_0000;
 pub const ABORTED: u32 = 0xF000_0001;
 
+/// The last number that a state can have.
+pub const LAST_NUMBER: u32 = u32::MAX;
+
+/// The bytes of a state that its agents stand in, and those of its number.
+pub const AGENT_BYTES: Range<usize> = 4..132;
+const NUMBER_BYTES: Range<usize> = 132..136;
+
+/// What plays in the next instant.
 #[derive(Clone, PartialEq, Eq, Debug)]
-pub enum State {
+pub enum Awake {
     Running(BTreeSet<Agent>),
     Aborted,
 }
 
+/// The number is how many instants were run since the start, aborted ones included.
+#[derive(Clone, PartialEq, Eq, Debug)]
+pub struct State {
+    pub awake: Awake,
+    pub number: u32,
+}
+
 impl State {
     pub fn start(score: &Decoded) -> State {
-        State::Running(BTreeSet::from([score.roots[0]]))
+        State { awake: Awake::Running(BTreeSet::from([score.roots[0]])), number: 0 }
     }
 
-    /// Nothing where the bytes meet number 9.
+    /// Nothing where the bytes meet number 9, which does not look at the last word.
     pub fn read(score: &Decoded, bytes: &[u8]) -> Option<State> {
         let words = words(bytes);
         let agents: BTreeSet<Agent> =
             (0..1024).filter(|agent| words[1 + agent / 32] >> (agent % 32) & 1 == 1).collect();
-        match words[0] {
-            RUNNING if agents.iter().all(|&agent| agent < score.agents.len()) => Some(State::Running(agents)),
-            ABORTED if agents.is_empty() => Some(State::Aborted),
-            _ => None,
-        }
+        let awake = match words[0] {
+            RUNNING if agents.iter().all(|&agent| agent < score.agents.len()) => Awake::Running(agents),
+            ABORTED if agents.is_empty() => Awake::Aborted,
+            _ => return None,
+        };
+        Some(State { awake, number: words[33] })
     }
 
     pub fn bytes(&self) -> Vec<u8> {
-        match self {
-            State::Running(agents) => state_bytes(RUNNING, agents.iter().copied()),
-            State::Aborted => state_bytes(ABORTED, []),
-        }
+        let bytes = match &self.awake {
+            Awake::Running(agents) => state_bytes(RUNNING, agents.iter().copied()),
+            Awake::Aborted => state_bytes(ABORTED, []),
+        };
+        numbered(bytes, self.number)
     }
 }
 
+/// The bytes of a state with another number.
+pub fn numbered(mut state: Vec<u8>, number: u32) -> Vec<u8> {
+    state[NUMBER_BYTES].copy_from_slice(&number.to_le_bytes());
+    state
+}
+
+/// The number of a state's bytes.
+pub fn number_of(state: &[u8]) -> u32 {
+    words(state)[33]
+}
+
+pub fn is_aborted(state: &[u8]) -> bool {
+    words(state)[0] == ABORTED
+}
+
+/// With number 0.
 pub fn state_bytes(word_0: u32, agents: impl IntoIterator<Item = Agent>) -> Vec<u8> {
     let mut words = [0; STATE_BYTES / 4];
     words[0] = word_0;

@@ -403,12 +403,40 @@ pub fn tokens(random: &mut Random, score: &Decoded) -> Vec<Token> {
     tokens
 }
 
-/// Any set of the score's agents, or at times an aborted state.
-pub fn lawful_state(random: &mut Random, score: &Decoded) -> Vec<u8> {
-    if random.one_in(12) {
-        return state_bytes(ABORTED, []);
+/// The highest number from which all lists of the trials can be run to their ends.
+const LAST_EARLY_NUMBER: u32 = LAST_NUMBER - 100_000;
+
+/// Numbers whose bytes from the lowest on, or whose bits but the highest, are all 1.
+const FULL_NUMBERS: [u32; 4] = [0xFF, 0xFFFF, 0xFF_FFFF, 0x7FFF_FFFF];
+
+/// A number that is far from the last: 0, full or almost, or any other.
+pub fn early_number(random: &mut Random) -> u32 {
+    let number = match random.below(4) {
+        0 => 0,
+        1 => random.pick(&FULL_NUMBERS) - random.below(4),
+        2 => random.word() >> random.below(32),
+        _ => random.word(),
+    };
+    number.min(LAST_EARLY_NUMBER)
+}
+
+/// One of the last five numbers.
+pub fn late_number(random: &mut Random) -> u32 {
+    LAST_NUMBER - random.below(5)
+}
+
+pub fn any_number(random: &mut Random) -> u32 {
+    if random.one_in(2) {
+        late_number(random)
+    } else {
+        early_number(random)
     }
-    state_bytes(RUNNING, agents(random, score))
+}
+
+/// Any set of the score's agents, or at times an aborted state, far from the last number.
+pub fn lawful_state(random: &mut Random, score: &Decoded) -> Vec<u8> {
+    let state = if random.one_in(12) { state_bytes(ABORTED, []) } else { state_bytes(RUNNING, agents(random, score)) };
+    numbered(state, early_number(random))
 }
 
 /// A number from the lowest on and below the limit, often at one of the two.
@@ -424,17 +452,18 @@ fn at_least(random: &mut Random, lowest: u32, limit: u32) -> Option<usize> {
     Some(number as usize)
 }
 
-/// A state that meets number 9, but for one of five of the largest scores.
+/// A state that meets number 9, whatever its instant number, but for one of five of the largest scores.
 pub fn unlawful_state(random: &mut Random, score: &Decoded) -> Vec<u8> {
     let awake = agents(random, score);
     let unknown = at_least(random, score.agents.len() as u32, 1024);
-    match random.below(5) {
+    let state = match random.below(5) {
         0 => state_bytes(RUNNING, awake.into_iter().chain(unknown)),
         1 => state_bytes(ABORTED, [random.below(1024) as usize]),
         2 => state_bytes(RUNNING ^ 1 << random.between(1, 31), awake),
         3 => state_bytes(random.word() & 0x0FFF_FFFF, awake),
         _ => state_bytes(ABORTED ^ 1 << random.between(1, 31), []),
-    }
+    };
+    numbered(state, any_number(random))
 }
 
 pub fn lawful_input(random: &mut Random, score: &Decoded) -> Vec<u8> {
@@ -457,26 +486,53 @@ pub fn dirt(random: &mut Random, len: usize) -> Vec<u8> {
     }
 }
 
-/// Lengths of a scratch that meet number 8: none, one byte less, one byte more, and the length that document 01 had.
-pub const OTHER_SCRATCH_LENGTHS: [usize; 4] = [0, 127, 129, 2048];
-
-/// These, and others that could be taken for right: half the length, a word or two more, a byte less than document 01.
-pub fn wrong_scratch_lengths() -> impl Iterator<Item = usize> {
-    OTHER_SCRATCH_LENGTHS.into_iter().chain([1, 64, 132, 136, 2047])
+/// The lengths of a buffer that must be met.
+pub struct Lengths {
+    pub name: &'static str,
+    pub right: usize,
+    /// They meet number 8: none, one byte less, one byte more, and the length that document 01 had.
+    pub wrong: [usize; 4],
+    others: &'static [usize],
 }
 
-/// A length of a scratch: in turn each of the four, the right one, and any other.
-pub fn scratch_length(random: &mut Random, index: u64) -> usize {
-    let in_turn = [&OTHER_SCRATCH_LENGTHS[..], &[SCRATCH_BYTES]].concat();
-    let others = [1, 8, 32, 64, 120, 124, 126, 130, 132, 136, 256, 1024, 1920, 2044, 2047, 2049, 2176, 4096];
-    let turn = index as usize % (in_turn.len() + 1);
-    in_turn.get(turn).copied().unwrap_or_else(|| random.pick(&others))
+pub const SCRATCH_LENGTHS: Lengths = Lengths {
+    name: "scratch",
+    right: SCRATCH_BYTES,
+    wrong: [0, 127, 129, 2048],
+    others: &[1, 8, 32, 64, 120, 124, 126, 130, 132, 136, 256, 1024, 1920, 2044, 2047, 2049, 2176, 4096],
+};
+
+pub const STATE_LENGTHS: Lengths = Lengths {
+    name: "state",
+    right: STATE_BYTES,
+    wrong: [0, 135, 137, 132],
+    others: &[1, 4, 32, 33, 34, 64, 68, 124, 128, 131, 133, 134, 138, 139, 140, 144, 264, 272, 544, 4096],
+};
+
+impl Lengths {
+    /// In turn each of the wrong ones, the right one, and any other wrong one.
+    pub fn in_turn(&self, random: &mut Random, index: u64) -> usize {
+        let in_turn = [&self.wrong[..], &[self.right]].concat();
+        let turn = index as usize % (in_turn.len() + 1);
+        in_turn.get(turn).copied().unwrap_or_else(|| random.pick(self.others))
+    }
+
+    /// All the wrong ones.
+    pub fn all_wrong(&self) -> impl Iterator<Item = usize> + '_ {
+        self.wrong.iter().chain(self.others).copied()
+    }
+}
+
+/// The wrong lengths of a scratch, and others that could be taken for right: half the length, a word or two more, a
+/// byte less than document 01.
+pub fn wrong_scratch_lengths() -> impl Iterator<Item = usize> {
+    SCRATCH_LENGTHS.wrong.into_iter().chain([1, 64, 132, 136, 2047])
 }
 
 /// A length that is not the one it should be.
 fn another_length(random: &mut Random, length: usize) -> usize {
     let near = [length.saturating_sub(1), length + 1, length.saturating_sub(4), length + 4, 2 * length, length / 2];
-    let far = [&[1, MAP_BYTES, STATE_BYTES, SCRATCH_BYTES], &OTHER_SCRATCH_LENGTHS[..]].concat();
+    let far = [&[1, MAP_BYTES, STATE_BYTES, SCRATCH_BYTES], &SCRATCH_LENGTHS.wrong[..]].concat();
     let other = if random.one_in(2) { random.pick(&near) } else { random.pick(&far) };
     if other == length {
         length + 2

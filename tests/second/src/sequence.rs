@@ -3,7 +3,7 @@
 
 use crate::decoded::{Agent, Decoded, Token};
 use crate::engine::{self, End};
-use crate::lent::State;
+use crate::lent::{Awake, State};
 use crate::random::Random;
 
 /// More copies than these are cut down to one of each agent, which the demand allows at the first instant only; so
@@ -14,22 +14,25 @@ pub struct Sequence<'a> {
     score: &'a Decoded,
     /// The copies awake, or nothing once aborted.
     awake: Option<Vec<Agent>>,
+    /// How many instants were run since the start.
+    number: u32,
 }
 
 impl Sequence<'_> {
     /// Starts with one or more copies of each agent awake.
-    pub fn start<'a>(score: &'a Decoded, awake: &[Agent], random: &mut Random) -> Sequence<'a> {
+    pub fn start<'a>(score: &'a Decoded, awake: &[Agent], number: u32, random: &mut Random) -> Sequence<'a> {
         let copies = awake.iter().flat_map(|&agent| vec![agent; random.pick(&[1, 1, 2, 3])]).collect();
-        Sequence { score, awake: Some(copies) }
+        Sequence { score, awake: Some(copies), number }
     }
 
-    /// What an end leaves awake.
-    pub fn after<'a>(score: &'a Decoded, end: &End) -> Sequence<'a> {
-        Sequence { score, awake: left_awake(end) }
+    /// What the end of an instant at a number leaves awake.
+    pub fn after<'a>(score: &'a Decoded, end: &End, number: u32) -> Sequence<'a> {
+        Sequence { score, awake: left_awake(end), number: number + 1 }
     }
 
-    /// The end of the next instant, by a random order.
+    /// The end of the next instant, by a random order. There is none at the last number.
     pub fn instant(&mut self, inputs: &[Token], random: &mut Random) -> End {
+        self.number = self.number.checked_add(1).expect("no instant is run at the last number");
         let Some(copies) = &mut self.awake else { return End::Abort };
         if copies.len() > MOST_COPIES {
             copies.dedup();
@@ -41,10 +44,11 @@ impl Sequence<'_> {
 
     /// The state that the copies awake stand for.
     pub fn state(&self) -> State {
-        match &self.awake {
-            None => State::Aborted,
-            Some(copies) => State::Running(copies.iter().copied().collect()),
-        }
+        let awake = match &self.awake {
+            None => Awake::Aborted,
+            Some(copies) => Awake::Running(copies.iter().copied().collect()),
+        };
+        State { awake, number: self.number }
     }
 }
 

@@ -1,12 +1,12 @@
 //! How many settings of switches end how, as document 02 tells it: each set of exactly k of the switches is tried from
-//! the same state, by an order of its own.
+//! the same state, its number aside, by an order of its own.
 
 #[cfg(test)]
 mod tests;
 
 use crate::decoded::{Decoded, Token};
 use crate::engine;
-use crate::lent::State;
+use crate::lent::Awake;
 use crate::random::Random;
 
 pub const MOST_SWITCHES: usize = 16;
@@ -35,17 +35,17 @@ pub fn settings(switches: &[Token], k: usize) -> Vec<Vec<Token>> {
 }
 
 /// The status that a setting ends with.
-pub fn status(score: &Decoded, state: &State, setting: &[Token], random: &mut Random) -> u32 {
-    let State::Running(agents) = state else { return 2 };
+pub fn status(score: &Decoded, awake: &Awake, setting: &[Token], random: &mut Random) -> u32 {
+    let Awake::Running(agents) = awake else { return 2 };
     let agents: Vec<_> = agents.iter().copied().collect();
     engine::instant(score, &agents, setting, random).status()
 }
 
 /// How many settings end with status 0, with 1 and with 2.
-pub fn counts(score: &Decoded, state: &State, switches: &[Token], k: usize, random: &mut Random) -> [u32; 3] {
+pub fn counts(score: &Decoded, awake: &Awake, switches: &[Token], k: usize, random: &mut Random) -> [u32; 3] {
     let mut counts = [0; 3];
     for setting in settings(switches, k) {
-        counts[status(score, state, &setting, random) as usize] += 1;
+        counts[status(score, awake, &setting, random) as usize] += 1;
     }
     counts
 }

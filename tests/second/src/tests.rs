@@ -2,10 +2,9 @@
 
 use crate::answer::{same, Answer};
 use crate::calls::Lent;
-use crate::lent::SCRATCH_BYTES;
 use crate::oracle;
 use crate::random::Random;
-use crate::scenes::OTHER_SCRATCH_LENGTHS;
+use crate::scenes::Lengths;
 use std::collections::BTreeMap;
 use std::process::ExitCode;
 
@@ -45,8 +44,8 @@ pub struct Met {
     statuses: BTreeMap<u32, u64>,
     statuses_with_facts: BTreeMap<u32, u64>,
     facts_added: u64,
-    /// By call and length, of the calls with nothing else wrong before number 9.
-    scratch_lengths: BTreeMap<(&'static str, usize), u64>,
+    /// By call, buffer and length, of the calls with nothing else wrong before number 9.
+    lengths: BTreeMap<(&'static str, &'static str, usize), u64>,
     /// By name, what else a program must meet.
     noted: BTreeMap<String, u64>,
 }
@@ -83,12 +82,12 @@ impl Met {
         *self.noted.entry(what.to_string()).or_default() += 1;
     }
 
-    /// Holds the answer of a call with nothing wrong before number 9, but for the length of its scratch, to what is
-    /// known of it: another length meets 8, and with the right one the call is accepted.
-    pub fn count_scratch(&mut self, call: &'static str, length: usize, answer: Answer) -> Outcome {
-        *self.scratch_lengths.entry((call, length)).or_default() += 1;
-        let number = if length == SCRATCH_BYTES { 0 } else { 8 };
-        ensure(answer.number() == number, &format!("both engines say {answer} of a scratch of {length} bytes"))
+    /// Holds the answer of a call with nothing wrong before number 9, but for the length of a buffer, to what is known
+    /// of it: another length meets 8, and with the right one the call is accepted.
+    pub fn count_length(&mut self, call: &'static str, of: &Lengths, length: usize, answer: Answer) -> Outcome {
+        *self.lengths.entry((call, of.name, length)).or_default() += 1;
+        let number = if length == of.right { 0 } else { 8 };
+        ensure(answer.number() == number, &format!("both engines say {answer} of a {} of {length} bytes", of.name))
     }
 
     /// A score was compared with itself and a fact more, which it did not have.
@@ -157,11 +156,11 @@ impl Tests {
         }
     }
 
-    /// From both sides of the scratch's length.
-    pub fn require_scratch_lengths(&mut self, call: &'static str) {
-        for length in [SCRATCH_BYTES].into_iter().chain(OTHER_SCRATCH_LENGTHS) {
-            let met = self.met.scratch_lengths.get(&(call, length)).copied();
-            self.require(&format!("{call}: a scratch of {length} bytes"), met);
+    /// From both sides of a buffer's length.
+    pub fn require_lengths(&mut self, call: &'static str, of: &Lengths) {
+        for length in [of.right].into_iter().chain(of.wrong) {
+            let met = self.met.lengths.get(&(call, of.name, length)).copied();
+            self.require(&format!("{call}: a {} of {length} bytes", of.name), met);
         }
     }
 

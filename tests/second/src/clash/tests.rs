@@ -51,7 +51,7 @@ fn a_clash_shows_no_outputs_and_a_quiet_instant_shows_document_01s() {
         let mut random = Random::new(0, index);
         let score = Decoded::new(&score(&mut random));
         let list = list(&mut random, &score, 8);
-        let mut sequence = Sequence::start(&score, &[score.roots[0]], &mut random);
+        let mut sequence = Sequence::start(&score, &[score.roots[0]], 0, &mut random);
         let journal = calls::journal(&score, &list, &mut random);
         let sent = sent(&score, &journal.concat(), &clashes(&journal.concat()));
         for ((inputs, got), range) in list.iter().zip(&journal).zip(instants(&sent)) {
@@ -88,7 +88,7 @@ fn clashes_have_every_cause_and_ports_of_every_kind() {
         let mut random = Random::new(2, index);
         let score = Decoded::new(&score(&mut random));
         let inputs = inputs(&mut random, &score);
-        let end = Sequence::start(&score, &[score.roots[0]], &mut random).instant(&inputs, &mut random);
+        let end = Sequence::start(&score, &[score.roots[0]], 0, &mut random).instant(&inputs, &mut random);
         if end.status() == 1 {
             for name in kinds_of_ports(&score).chain([cause(&score, &inputs)]) {
                 *met.entry(name).or_insert(0) += 1;

@@ -5,7 +5,7 @@ use crate::answer::Answer;
 use crate::calls::{instant_call, InstantLent};
 use crate::decoded::{Decoded, Token};
 use crate::engine::{self, End, Order};
-use crate::lent::{map_tokens, State};
+use crate::lent::{map_tokens, state_bytes, RUNNING};
 use crate::random::Random;
 use crate::words::*;
 use crate::{every_order, lawful, scenes};
@@ -86,7 +86,7 @@ fn went(order: &Order) -> Went {
 fn instant_of(random: &mut Random, score: Vec<u8>) -> (InstantLent, Vec<Agent>, Vec<Token>) {
     let decoded = Decoded::new(&score);
     let agents = scenes::agents(random, &decoded);
-    let state = State::Running(agents.iter().copied().collect()).bytes();
+    let state = state_bytes(RUNNING, agents.iter().copied());
     let lent = InstantLent { state, ..lawful::instant(random, score) };
     let inputs = map_tokens(&lent.input);
     (lent, agents, inputs)
@@ -152,7 +152,7 @@ fn status_2_has_count_0_though_bits_are_set() {
     let decoded = Decoded::new(&score);
     let order = engine::finished(&decoded, &[1023], &[], &mut random);
     assert_eq!((order.end(), order.scratch.count()), (End::Abort, 1024));
-    let state = State::Running(BTreeSet::from([1023])).bytes();
+    let state = state_bytes(RUNNING, [1023]);
     let input = vec![0; 32];
     let lent = InstantLent { state, input, ..lawful::instant(&mut random, score) };
     let (answer, after) = instant_call(&lent, &mut random);

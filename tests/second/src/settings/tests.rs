@@ -1,7 +1,7 @@
 //! The settings themselves, and what the second engine counts of them.
 
 use super::*;
-use crate::lent::{state_bytes, RUNNING};
+use crate::lent::State;
 use crate::sample::S;
 use crate::scenes;
 use crate::words::to_bytes;
@@ -48,11 +48,11 @@ fn each_cause_of_17_is_found() {
 #[test]
 fn the_sample_counts() {
     let score = Decoded::new(&to_bytes(&S));
-    let count = |state: &State, k| counts(&score, state, &[1, 2, 3], k, &mut Random::new(0, 0));
-    let nobody = State::read(&score, &state_bytes(RUNNING, [])).expect("a lawful state");
-    assert_eq!([0, 1, 2, 3].map(|k| count(&State::start(&score), k)), [[1, 0, 0], [3, 0, 0], [1, 2, 0], [0, 1, 0]]);
+    let count = |awake: &Awake, k| counts(&score, awake, &[1, 2, 3], k, &mut Random::new(0, 0));
+    let (start, nobody) = (State::start(&score).awake, Awake::Running(BTreeSet::new()));
+    assert_eq!([0, 1, 2, 3].map(|k| count(&start, k)), [[1, 0, 0], [3, 0, 0], [1, 2, 0], [0, 1, 0]]);
     assert_eq!([0, 1, 2, 3].map(|k| count(&nobody, k)), [[1, 0, 0], [3, 0, 0], [2, 1, 0], [0, 1, 0]]);
-    assert_eq!([0, 1, 2, 3].map(|k| count(&State::Aborted, k)), [[0, 0, 1], [0, 0, 3], [0, 0, 3], [0, 0, 1]]);
+    assert_eq!([0, 1, 2, 3].map(|k| count(&Awake::Aborted, k)), [[0, 0, 1], [0, 0, 3], [0, 0, 3], [0, 0, 1]]);
 }
 
 /// The order of the list does not matter. No two settings of one state end with a clash and with an abort: a clash
@@ -64,13 +64,14 @@ fn counts_are_of_sets_and_have_not_both_clashes_and_aborts() {
         let mut random = Random::new(0, index);
         let n = random.below(7);
         let score = Decoded::new(&scenes::switchboard(&mut random, n.max(1)));
-        let state = State::read(&score, &scenes::lawful_state(&mut random, &score)).expect("a lawful state");
+        let State { awake, .. } =
+            State::read(&score, &scenes::lawful_state(&mut random, &score)).expect("a lawful state");
         let mut switches: Vec<Token> = random.order(score.tokens as u32).iter().map(|&token| token as usize).collect();
         switches.truncate(n as usize);
         for k in 0..=switches.len() {
-            let counted = counts(&score, &state, &switches, k, &mut random);
+            let counted = counts(&score, &awake, &switches, k, &mut random);
             random.shuffle(&mut switches);
-            assert_eq!(counted, counts(&score, &state, &switches, k, &mut random));
+            assert_eq!(counted, counts(&score, &awake, &switches, k, &mut random));
             assert_eq!(counted.iter().sum::<u32>(), binomial(switches.len(), k));
             assert!(counted[1] == 0 || counted[2] == 0);
             (0..3).for_each(|status| met[status] += u64::from(counted[status] > 0));

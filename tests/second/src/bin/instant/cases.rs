@@ -68,12 +68,13 @@ fn output(score: &[u8], wanted: &Wanted) -> Vec<usize> {
     wanted.store.iter().copied().filter(is_sent).collect()
 }
 
-/// The buffers after an instant that brings about what is wanted.
+/// The buffers after an instant that brings about what is wanted. The number of the state is one higher.
 fn after(lent: &InstantLent, wanted: &Wanted) -> InstantLent {
     let word_0 = if wanted.status == 2 { ABORTED } else { RUNNING };
+    let state = state_bytes(word_0, wanted.awake.iter().copied());
     InstantLent {
         score: lent.score.clone(),
-        state: state_bytes(word_0, wanted.awake.iter().copied()),
+        state: numbered(state, number_of(&lent.state) + 1),
         input: lent.input.clone(),
         store: map_bytes(&wanted.store),
         output: map_bytes(&output(&lent.score, wanted)),
@@ -82,7 +83,7 @@ fn after(lent: &InstantLent, wanted: &Wanted) -> InstantLent {
 }
 
 /// Holds both engines to what is expected, at every offset.
-fn both(met: &mut Met, lent: &InstantLent, expected: (Answer, InstantLent)) -> Outcome {
+pub fn both(met: &mut Met, lent: &InstantLent, expected: (Answer, InstantLent)) -> Outcome {
     let (answer, buffers) = instant_call(lent, &mut Random::new(0, 0));
     same_call(&expected, &(answer.packed(), buffers)).map_err(|difference| format!("second engine: {difference}"))?;
     for offset in 0..8 {
@@ -104,18 +105,27 @@ pub fn brings_about(met: &mut Met, lent: &InstantLent, wanted: &Wanted) -> Resul
 
 /// Instants one after the other on one state: the inputs of each, and what it must bring about.
 pub fn in_turn(met: &mut Met, score: &[u32], awake: &[usize], instants: &[(&[usize], Wanted)]) -> Outcome {
-    let mut state = state_bytes(RUNNING, awake.iter().copied());
+    in_turn_from(met, score, state_bytes(RUNNING, awake.iter().copied()), instants).map(|_| ())
+}
+
+/// The same from a state, and the state after them.
+pub fn in_turn_from(
+    met: &mut Met,
+    score: &[u32],
+    mut state: Vec<u8>,
+    instants: &[(&[usize], Wanted)],
+) -> Result<Vec<u8>, String> {
     for (inputs, wanted) in instants {
         state = brings_about(met, &lent(score, state, inputs), wanted)?.state;
     }
-    Ok(())
+    Ok(state)
 }
 
 pub fn turned_down(met: &mut Met, lent: InstantLent, number: u32, value: u64) -> Outcome {
     both(met, &lent, (refused(number, value), lent.clone()))
 }
 
-fn s_aborting() -> Vec<u32> {
+pub fn s_aborting() -> Vec<u32> {
     replaced(&S, &[(2, 0x4000_0001)])
 }
 

@@ -38,7 +38,7 @@ pub fn in_turn(met: &mut Met, random: &mut Random, _: u64) -> Outcome {
         maps.hold(&decoded).map_err(|difference| format!("{difference}{}", shown(&lent)))?;
         maps.note(met, &decoded, &tokens);
         maps.note_after(met, before.as_ref());
-        let aborts = status == 2 && lent.state != State::Aborted.bytes();
+        let aborts = status == 2 && !is_aborted(&lent.state);
         note_where(met, aborts && (tokens.contains(&0) || standing(&decoded)[0]), ABORTS_IN);
         state = after.state;
         before = Some(maps);

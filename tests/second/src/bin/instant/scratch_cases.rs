@@ -82,7 +82,7 @@ fn contents() -> Vec<Case> {
         }),
         case("S, aborted, on the bits of its instants: count 0", |met| {
             instants_of_s().into_iter().try_for_each(|(_, inputs, _, bits)| {
-                let mut lent = lent(&S, State::Aborted.bytes(), inputs);
+                let mut lent = lent(&S, state_bytes(ABORTED, []), inputs);
                 lent.scratch = first_byte(bits);
                 brings_about(met, &lent, &aborted()).map(|_| ())
             })

@@ -1,13 +1,14 @@
 //! Generated instants.
 
 use crate::{library, overlap};
-use second::answer::{same, Answer};
+use second::answer::{refused, same, Answer};
 use second::calls::{bits_of_instants, instant_call, InstantLent};
 use second::decoded::Decoded;
 use second::engine::{self, End};
 use second::guarded::{guards, GUARDS};
 use second::lent::*;
 use second::random::Random;
+use second::scenes::{SCRATCH_LENGTHS, STATE_LENGTHS};
 use second::sequence::Sequence;
 use second::tests::{ensure, same_call, shown, Met, Outcome};
 use second::{chains, every_order, lawful, scenes, words};
@@ -58,7 +59,7 @@ pub fn special_scores(met: &mut Met, random: &mut Random, _: u64) -> Outcome {
     judge_at_any_offset(met, &lent, random)
 }
 
-fn resize_one(random: &mut Random, lent: &mut InstantLent) {
+pub fn resize_one(random: &mut Random, lent: &mut InstantLent) {
     let buffers = [&mut lent.state, &mut lent.input, &mut lent.store, &mut lent.output, &mut lent.scratch];
     let which = random.below(5) as usize;
     for (place, buffer) in buffers.into_iter().enumerate() {
@@ -82,7 +83,7 @@ pub fn other_lengths(met: &mut Met, random: &mut Random, _: u64) -> Outcome {
 pub fn scratch_lengths(met: &mut Met, random: &mut Random, index: u64) -> Outcome {
     let score = scenes::small_score(random);
     let mut lent = lawful::instant(random, score);
-    let length = scenes::scratch_length(random, index);
+    let length = SCRATCH_LENGTHS.in_turn(random, index);
     lent.scratch = scenes::dirt(random, length);
     if length != SCRATCH_BYTES && random.one_in(2) {
         let decoded = Decoded::new(&lent.score);
@@ -91,7 +92,21 @@ pub fn scratch_lengths(met: &mut Met, random: &mut Random, index: u64) -> Outcom
     }
     let offset = random.below(8) as usize;
     let (answer, _) = judge(met, &lent, random, offset)?;
-    met.count_scratch("instant", length, answer)
+    met.count_length("instant", &SCRATCH_LENGTHS, length, answer)
+}
+
+/// A state of any length, the right one among them. With another one the rest is at times wrong besides.
+pub fn state_lengths(met: &mut Met, random: &mut Random, index: u64) -> Outcome {
+    let score = scenes::small_score(random);
+    let mut lent = lawful::instant(random, score);
+    let length = STATE_LENGTHS.in_turn(random, index);
+    lent.state.resize(length, random.word() as u8);
+    if length != STATE_BYTES && random.one_in(2) {
+        lent.input = scenes::unlawful_input(random, &Decoded::new(&lent.score));
+    }
+    let offset = random.below(8) as usize;
+    let (answer, _) = judge(met, &lent, random, offset)?;
+    met.count_length("instant", &STATE_LENGTHS, length, answer)
 }
 
 /// What must be met among instants whose scratch holds bits of others.
@@ -138,18 +153,19 @@ pub fn unlawful_states(met: &mut Met, random: &mut Random, _: u64) -> Outcome {
     judge_at_any_offset(met, &lent, random)
 }
 
-/// Inputs with unknown tokens, in running and aborted states.
+/// Inputs with unknown tokens, in running and aborted states at any number.
 pub fn unlawful_inputs(met: &mut Met, random: &mut Random, _: u64) -> Outcome {
     let score = scenes::score(random);
     let mut lent = lawful::instant(random, score);
     lent.input = scenes::unlawful_input(random, &Decoded::new(&lent.score));
+    lent.state = numbered(lent.state, scenes::any_number(random));
     judge_at_any_offset(met, &lent, random)
 }
 
 pub fn aborted_states(met: &mut Met, random: &mut Random, _: u64) -> Outcome {
     let score = scenes::score(random);
     let mut lent = lawful::instant(random, score);
-    lent.state = State::Aborted.bytes();
+    lent.state = numbered(state_bytes(ABORTED, []), scenes::any_number(random));
     judge_at_any_offset(met, &lent, random)
 }
 
@@ -174,7 +190,7 @@ pub fn damaged_scores(met: &mut Met, random: &mut Random, _: u64) -> Outcome {
 pub fn checked_scores(met: &mut Met, random: &mut Random, index: u64) -> Outcome {
     let lent = InstantLent {
         score: scenes::checked_score(random, index),
-        state: state_bytes(RUNNING, [0]),
+        state: numbered(state_bytes(RUNNING, [0]), scenes::any_number(random)),
         input: map_bytes(&[]),
         store: scenes::dirt(random, MAP_BYTES),
         output: scenes::dirt(random, MAP_BYTES),
@@ -188,6 +204,7 @@ pub fn several_faults(met: &mut Met, random: &mut Random, _: u64) -> Outcome {
     let score = scenes::small_score(random);
     let mut lent = lawful::instant(random, score);
     let decoded = Decoded::new(&lent.score);
+    lent.state = numbered(lent.state, scenes::any_number(random));
     if random.one_in(2) {
         lent.state = scenes::unlawful_state(random, &decoded);
     }
@@ -218,7 +235,7 @@ pub fn full_scores(met: &mut Met, random: &mut Random, index: u64) -> Outcome {
     let mut lent = lawful::instant(random, score.bytes());
     if index.is_multiple_of(2) {
         lent.input = scenes::dirt(random, MAP_BYTES);
-        lent.state[4..].copy_from_slice(&scenes::dirt(random, STATE_BYTES - 4));
+        lent.state[AGENT_BYTES].copy_from_slice(&scenes::dirt(random, AGENT_BYTES.len()));
     }
     judge_at_any_offset(met, &lent, random)
 }
@@ -256,7 +273,7 @@ pub fn every_kind(met: &mut Met, random: &mut Random, index: u64) -> Outcome {
     let score = second::generate::every_kind();
     let states = 1 << score.agents.len();
     let mut lent = lawful::instant(random, score.bytes());
-    lent.state = state_bytes(RUNNING, bits(index % states));
+    lent.state = numbered(state_bytes(RUNNING, bits(index % states)), scenes::early_number(random));
     lent.input = map_bytes(&bits(index / states % (1 << score.tokens)));
     judge_at_any_offset(met, &lent, random)
 }
@@ -268,7 +285,7 @@ pub fn every_state_and_input(met: &mut Met, random: &mut Random, _: u64) -> Outc
     let mut lent = lawful::instant(random, score);
     for state in 0..1 << decoded.agents.len() {
         for input in 0..1 << decoded.tokens {
-            lent.state = state_bytes(RUNNING, bits(state));
+            lent.state = numbered(state_bytes(RUNNING, bits(state)), scenes::early_number(random));
             lent.input = map_bytes(&bits(input));
             judge_at_any_offset(met, &lent, random)?;
         }
@@ -278,25 +295,42 @@ pub fn every_state_and_input(met: &mut Met, random: &mut Random, _: u64) -> Outc
 
 /// Instants on one state buffer, with refused calls between them; the second engine keeps all copies.
 pub fn sequences(met: &mut Met, random: &mut Random, _: u64) -> Outcome {
+    let number = scenes::early_number(random);
+    sequence_from(met, random, number)
+}
+
+/// The same up to the last number, and past it.
+pub fn sequences_to_the_last(met: &mut Met, random: &mut Random, _: u64) -> Outcome {
+    let number = LAST_NUMBER - random.between(1, 6);
+    sequence_from(met, random, number)
+}
+
+fn sequence_from(met: &mut Met, random: &mut Random, number: u32) -> Outcome {
     let score = scenes::score(random);
     let decoded = Decoded::new(&score);
     let awake = scenes::agents(random, &decoded);
-    let mut sequence = Sequence::start(&decoded, &awake, random);
-    let mut state = state_bytes(RUNNING, awake);
+    let mut sequence = Sequence::start(&decoded, &awake, number, random);
+    let mut state = numbered(state_bytes(RUNNING, awake), number);
     for _ in 0..random.between(2, 12) {
         let mut lent = lawful::instant(random, score.clone());
         lent.state = state;
         if random.one_in(5) {
             refused_between(met, random, &lent)?;
         }
-        let inputs = map_tokens(&lent.input);
-        let end = sequence.instant(&inputs, random);
-        let (_, after) = judge(met, &lent, random, 0)?;
-        same_end(&sequence, &end, &after).map_err(|difference| format!("{difference}{}", shown(&lent)))?;
+        let (answer, after) = judge(met, &lent, random, 0)?;
+        if number_of(&lent.state) == LAST_NUMBER {
+            ensure(answer == refused(18, 0), &format!("both engines say {answer} at the last number"))?;
+            met.note(PAST_THE_LAST);
+        } else {
+            let end = sequence.instant(&map_tokens(&lent.input), random);
+            same_end(&sequence, &end, &after).map_err(|difference| format!("{difference}{}", shown(&lent)))?;
+        }
         state = after.state;
     }
     Ok(())
 }
+
+pub const PAST_THE_LAST: &str = "an instant refused after those up to the last number";
 
 /// A call that is refused, on the same state.
 fn refused_between(met: &mut Met, random: &mut Random, lent: &InstantLent) -> Outcome {
@@ -336,20 +370,20 @@ pub fn every_order(met: &mut Met, random: &mut Random, _: u64) -> Outcome {
         return Err(format!("orders end differently, or never{}", shown(&lent)));
     };
     let got = library::instant(&lent, 0, GUARDS[0])?;
-    same_end(&Sequence::after(&decoded, &end), &end, &after)
+    same_end(&Sequence::after(&decoded, &end, number_of(&lent.state)), &end, &after)
         .and_then(|()| same(got.0, answer_of(&end)))
         .map_err(|difference| format!("{difference}{}", shown(&lent)))
 }
 
 fn running(random: &mut Random, score: &[u8], decoded: &Decoded) -> InstantLent {
     let mut lent = lawful::instant(random, score.to_vec());
-    lent.state = state_bytes(RUNNING, scenes::agents(random, decoded));
+    lent.state = numbered(state_bytes(RUNNING, scenes::agents(random, decoded)), scenes::early_number(random));
     lent
 }
 
 /// The ends of all orders that start with one copy or two of each agent awake.
 fn ends_of_orders(random: &mut Random, score: &Decoded, lent: &InstantLent) -> Result<Option<HashSet<End>>, String> {
-    let Some(State::Running(awake)) = State::read(score, &lent.state) else { return Ok(None) };
+    let Some(State { awake: Awake::Running(awake), .. }) = State::read(score, &lent.state) else { return Ok(None) };
     let copies: Vec<_> = awake.iter().flat_map(|&agent| vec![agent; random.pick(&[1, 1, 2])]).collect();
     every_order::ends(score, &copies, &map_tokens(&lent.input), MOST_POINTS)
 }
@@ -368,14 +402,16 @@ pub fn with_and_without_copies(met: &mut Met, random: &mut Random, _: u64) -> Ou
     let decoded = Decoded::new(&score);
     let lent = running(random, &score, &decoded);
     let (_, after) = judge(met, &lent, random, 0)?;
-    let Some(State::Running(awake)) = State::read(&decoded, &lent.state) else { return Ok(()) };
+    let Some(State { awake: Awake::Running(awake), number }) = State::read(&decoded, &lent.state) else {
+        return Ok(());
+    };
     let awake: Vec<_> = awake.into_iter().collect();
     let inputs = map_tokens(&lent.input);
     for end in [
-        Sequence::start(&decoded, &awake, random).instant(&inputs, random),
+        Sequence::start(&decoded, &awake, number, random).instant(&inputs, random),
         engine::instant_without_copies(&decoded, &awake, &inputs, random),
     ] {
-        same_end(&Sequence::after(&decoded, &end), &end, &after)
+        same_end(&Sequence::after(&decoded, &end, number), &end, &after)
             .map_err(|difference| format!("{difference}{}", shown(&lent)))?;
     }
     Ok(())

@@ -40,7 +40,8 @@ fn any_run(random: &mut Random) -> RunLent {
     let mut lent = lawful::run(random, score, 6);
     if tells {
         let others = if random.one_in(2) { vec![] } else { scenes::agents(random, &decoded) };
-        lent.state = state_bytes(RUNNING, others.into_iter().chain([decoded.roots[0]]));
+        let agents = others.into_iter().chain([decoded.roots[0]]);
+        lent.state = numbered(state_bytes(RUNNING, agents), scenes::early_number(random));
     }
     if random.one_in(4) {
         lent.journal.truncate(random.below(lent.journal.len() as u32 + 1) as usize);
@@ -63,7 +64,7 @@ fn instants_of(met: &mut Met, random: &mut Random, run: &RunLent) -> Result<Vec<
 }
 
 fn is_unaborted((_, after): &Played) -> bool {
-    after.state != State::Aborted.bytes()
+    !is_aborted(&after.state)
 }
 
 fn is_fact(score: &Decoded, token: Token) -> bool {

@@ -16,17 +16,28 @@ use second::{lawful, scenes};
 
 /// The state after each call is what the orders of its instants leave awake.
 pub fn any_calls(met: &mut Met, random: &mut Random, _: u64) -> Outcome {
+    let number = scenes::early_number(random);
+    calls_from(met, random, number)
+}
+
+/// The same up to the last number, and past it.
+pub fn to_the_last(met: &mut Met, random: &mut Random, _: u64) -> Outcome {
+    let number = LAST_NUMBER - random.below(12);
+    calls_from(met, random, number)
+}
+
+fn calls_from(met: &mut Met, random: &mut Random, number: u32) -> Outcome {
     let score = scenes::score(random);
     let decoded = Decoded::new(&score);
     let awake = scenes::agents(random, &decoded);
-    let mut sequence = Sequence::start(&decoded, &awake, random);
-    let mut state = state_bytes(RUNNING, awake);
+    let mut sequence = Sequence::start(&decoded, &awake, number, random);
+    let mut state = numbered(state_bytes(RUNNING, awake), number);
     for _ in 0..random.between(1, 8) {
         state = match random.below(3) {
             0 => one_instant(met, random, &score, state, &mut sequence)?,
             _ => one_run(met, random, &score, state, &mut sequence)?,
         };
-        ensure(sequence.state().bytes() == state, "the copies awake are not the state's agents")?;
+        ensure(sequence.state().bytes() == state, "the copies awake and the instants run are not the state's")?;
     }
     Ok(())
 }
@@ -43,7 +54,9 @@ fn one_instant(
     let got = instant::instant(&lent, random.below(8) as usize, random.pick(&GUARDS))?;
     met.count("instant", &lent.score, got.0);
     same(got.0, expected.0).map_err(|difference| format!("{difference}{}", shown(&lent)))?;
-    sequence.instant(&map_tokens(&lent.input), random);
+    if number_of(&lent.state) < LAST_NUMBER {
+        sequence.instant(&map_tokens(&lent.input), random);
+    }
     Ok(got.1.state)
 }
 

@@ -31,7 +31,7 @@ pub fn inputs() -> Vec<u32> {
     second::oracle::words(&list_bytes(&list))
 }
 
-const OLD: u8 = 0xA5;
+pub const OLD: u8 = 0xA5;
 
 pub fn lent(score: &[u32], state: Vec<u8>, inputs: &[u32], room: usize) -> RunLent {
     RunLent {
@@ -47,10 +47,12 @@ pub fn start() -> Vec<u8> {
     state_bytes(RUNNING, [4])
 }
 
-/// Eight times, at random offsets; then the answer and the buffers written are held to what is wanted.
+/// Eight times, at random offsets; then the answer and the buffers written are held to what is wanted. The state's
+/// number is the one lent, and higher by as many instants as were written.
 pub fn run(met: &mut Met, lent: &RunLent, wanted: Answer, journal: &[u32], state: &[u8]) -> Outcome {
     let mut expected = to_bytes(journal);
     expected.resize(lent.journal.len(), OLD);
+    let state = numbered(state.to_vec(), number_of(&lent.state) + wanted.written() as u32);
     for index in 0..8 {
         let (answer, after) = judge::run(met, &mut Random::new(0, index), lent)?;
         known(answer, answer == wanted)?;
@@ -117,7 +119,7 @@ fn lists() -> Vec<Case> {
 }
 
 fn aborted() -> Vec<Case> {
-    let aborted = || State::Aborted.bytes();
+    let aborted = || state_bytes(ABORTED, []);
     let s_aborting = || replaced(&S, &[(2, 0x4000_0001)]);
     vec![
         case("S with an abort: inputs are written on, outputs are not", move |met| {
@@ -209,7 +211,7 @@ const ABORTED_JOURNAL: [u32; 5] = [0xC000_0000, 0xE000_0003, 0xC000_0002, 0xD000
 
 fn facts() -> Vec<Case> {
     let awake_2 = || state_bytes(RUNNING, [2]);
-    let aborted = || State::Aborted.bytes();
+    let aborted = || state_bytes(ABORTED, []);
     let two = [0xC000_0000, 0xC000_0000];
     let refusal = |name, word, number| {
         case(name, move |met| {
@@ -331,6 +333,18 @@ fn large_values() -> Vec<Case> {
             let (answer, _) = library::run(&lent, 0, GUARDS[0])?;
             met.count("run", &lent.score, answer);
             same(answer, refused(13, VERY_MANY as u64 - 1))
+        }),
+        case("2^24 + 1 instants before the last number: 18", |met| {
+            let (count, aborted) = (VERY_MANY - 1, state_bytes(ABORTED, []));
+            let state = numbered(aborted.clone(), LAST_NUMBER - count as u32);
+            let lent = lent(&S, state, &empty_instants(VERY_MANY), 4 * VERY_MANY);
+            let (answer, after) = library::run(&lent, 0, GUARDS[0])?;
+            met.count("run", &lent.score, answer);
+            same(answer, refused(18, count as u64))?;
+            let (written, old) = after.journal.split_at(4 * count);
+            let is_journal = written.chunks_exact(4).all(|word| word == instant_word(2).to_le_bytes());
+            ensure(is_journal && old == [OLD; 4], "another journal")?;
+            ensure(after.state == numbered(aborted, LAST_NUMBER), "another state")
         }),
         case("a journal's fault at word 2^24 + 1: 13", move |met| {
             let journal = to_bytes(&last(VERY_MANY, instant_word(3)));

@@ -108,6 +108,10 @@ fn nobody() -> Vec<u8> {
     state_bytes(RUNNING, [])
 }
 
+fn aborted() -> Vec<u8> {
+    state_bytes(second::lent::ABORTED, [])
+}
+
 const QUIET: u32 = 0xC000_0000;
 const CLASH: u32 = 0xC000_0001;
 const ABORTED: u32 = 0xC000_0002;
@@ -186,14 +190,14 @@ fn in_turn() -> Vec<Case> {
         case("a clash and then an abort", move |met| {
             let score = telling(&[abort(), next(4), when(5, 2), parallel(3, 6)]);
             let journal = [QUIET, output_word(1), CLASH, input_word(2), ABORTED, ABORTED, input_word(2)];
-            plays(met, &score, &[&[], &[2], &[], &[2]], &journal, State::Aborted.bytes())
+            plays(met, &score, &[&[], &[2], &[], &[2]], &journal, aborted())
         }),
         case("an abort in a clash is an abort", move |met| {
             let score = telling(&[abort(), when(4, 3), parallel(3, 5)]).words();
             let start = state_bytes(RUNNING, [6]);
             let list = [QUIET, QUIET, input_word(2), QUIET, input_word(0)];
             let journal = [QUIET, output_word(1), ABORTED, input_word(2), ABORTED, input_word(0)];
-            run(met, &lent(&score, start, &list, 64), Answer::Accepted(3), &journal, &State::Aborted.bytes())?;
+            run(met, &lent(&score, start, &list, 64), Answer::Accepted(3), &journal, &aborted())?;
             check(met, &score, to_bytes(&journal), Answer::Accepted(3))?;
             let clash = replaced(&journal, &[(2, CLASH)]);
             check(met, &score, to_bytes(&clash), refused(14, 1))

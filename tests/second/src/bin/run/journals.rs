@@ -7,6 +7,7 @@ use second::calls::{bits_of_instants, journal, JournalCheckLent};
 use second::decoded::Decoded;
 use second::lent::*;
 use second::random::Random;
+use second::scenes::SCRATCH_LENGTHS;
 use second::tests::{Met, Outcome};
 use second::words::to_bytes;
 use second::{chains, lawful, oracle, scenes};
@@ -229,13 +230,13 @@ pub fn several_faults(met: &mut Met, random: &mut Random, _: u64) -> Outcome {
 /// A scratch of any length, the right one among them. With another one the journal is at times wrong besides.
 pub fn with_scratch_lengths(met: &mut Met, random: &mut Random, index: u64) -> Outcome {
     let mut lent = of_small_run(random, 3);
-    let length = scenes::scratch_length(random, index);
+    let length = SCRATCH_LENGTHS.in_turn(random, index);
     lent.scratch = scenes::dirt(random, length);
     if length != SCRATCH_BYTES && random.one_in(2) {
         lent.journal = scenes::dirt(random, 9);
     }
     let answer = judge::journal_check(met, random, &lent)?;
-    met.count_scratch("journal check", length, answer)
+    met.count_length("journal check", &SCRATCH_LENGTHS, length, answer)
 }
 
 /// The scratch holds the bits that one of the journal's instants sets, as if they had not been cleared.

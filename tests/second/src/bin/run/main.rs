@@ -11,11 +11,14 @@ mod instant;
 mod journals;
 mod judge;
 mod library;
+mod number_cases;
+mod number_trials;
 mod runs;
 mod scratch_cases;
 mod short;
 
 use second::clash::{CAUSES, PORTS};
+use second::scenes::{SCRATCH_LENGTHS, STATE_LENGTHS};
 use second::tests::{self, Category, Tests, Trial};
 use std::process::ExitCode;
 
@@ -35,6 +38,7 @@ const CATEGORIES: &[Category<Trial>] = &[
     ("runs with several faults", 10_000, runs::several_faults),
     ("runs of scores of the score check", 12_000, runs::of_checked_scores),
     ("runs split", 4_000, runs::split),
+    ("runs split about the last number", 2_000, runs::split_at_the_last),
     ("journals of runs", 15_000, journals::accepted),
     ("journals of scores without facts", 5_000, journals::of_scores_without_facts),
     ("journals of special scores", 800, journals::of_special_scores),
@@ -50,6 +54,7 @@ const CATEGORIES: &[Category<Trial>] = &[
     ("journals with several faults", 10_000, journals::several_faults),
     ("journals of scores of the score check", 12_000, journals::of_checked_scores),
     ("calls in turn on one state", 6_000, calls_in_turn::any_calls),
+    ("calls in turn on one state to the last number and past it", 2_000, calls_in_turn::to_the_last),
     ("a fact added of what is always in the store", 4_000, added_fact::changes_nothing),
     ("runs of long chains of rules", 500, runs::of_long_chains),
     ("journals of long chains of rules", 500, journals::of_long_chains),
@@ -64,20 +69,26 @@ const CATEGORIES: &[Category<Trial>] = &[
     ("journals with an output added to a clash", 2_000, clash_trials::output_added),
     ("journals with a wrong instant before a clash that is sent", 2_500, clash_trials::wrong_before),
     ("journals that lack outputs of a quiet instant", 5_000, clash_trials::outputs_taken_out),
+    ("runs with states of every length", 7_200, runs::with_state_lengths),
+    ("runs to the last number, in any room", 2_400, number_trials::to_the_last),
+    ("what else is wrong with a run at the last number", 6_000, number_trials::with_a_fault),
 ];
 
 fn test(tests: &mut Tests) {
-    tests.cases(cases::all());
+    tests.cases(number_cases::all());
     tests.cases(scratch_cases::all());
     tests.cases(clash_cases::all());
+    tests.cases(cases::all());
     tests.categories(CATEGORIES, |trial, met, random, index| trial(met, random, index));
-    tests.require_numbers("run", (0..=9).chain([12, 13, 15]));
+    tests.require_numbers("run", (0..=9).chain([12, 13, 15, 18]));
     tests.require_numbers("journal check", (0..=8).chain(12..=14));
     tests.require_facts("run");
     tests.require_facts("journal check");
     tests.require_facts_added();
-    tests.require_scratch_lengths("run");
-    tests.require_scratch_lengths("journal check");
+    tests.require_lengths("run", &SCRATCH_LENGTHS);
+    tests.require_lengths("run", &STATE_LENGTHS);
+    tests.require_lengths("journal check", &SCRATCH_LENGTHS);
+    number_trials::met().iter().for_each(|what| tests.require_noted(what));
     CAUSES.iter().chain(&PORTS).chain(&clash_trials::MET).for_each(|what| tests.require_noted(what));
 }
 

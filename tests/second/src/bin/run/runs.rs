@@ -6,6 +6,7 @@ use second::calls::{bits_of_instants, RunLent};
 use second::decoded::Decoded;
 use second::lent::*;
 use second::random::Random;
+use second::scenes::{SCRATCH_LENGTHS, STATE_LENGTHS};
 use second::tests::{ensure, Met, Outcome};
 use second::{chains, lawful, oracle, scenes, words};
 
@@ -146,7 +147,8 @@ pub fn several_faults(met: &mut Met, random: &mut Random, _: u64) -> Outcome {
     }
     match random.below(4) {
         0 => lent.state = scenes::unlawful_state(random, &decoded),
-        1 => lent.state = State::Aborted.bytes(),
+        1 => lent.state = numbered(state_bytes(ABORTED, []), scenes::any_number(random)),
+        2 => lent.state = numbered(lent.state, scenes::late_number(random)),
         _ => {}
     }
     match random.below(6) {
@@ -166,14 +168,26 @@ pub fn several_faults(met: &mut Met, random: &mut Random, _: u64) -> Outcome {
 /// A scratch of any length, the right one among them. With another one the rest is at times wrong besides.
 pub fn with_scratch_lengths(met: &mut Met, random: &mut Random, index: u64) -> Outcome {
     let mut lent = small_lawful(random, 3);
-    let length = scenes::scratch_length(random, index);
+    let length = SCRATCH_LENGTHS.in_turn(random, index);
     lent.scratch = scenes::dirt(random, length);
     if length != SCRATCH_BYTES && random.one_in(2) {
         lent.state = scenes::unlawful_state(random, &Decoded::new(&lent.score));
         lent.inputs = scenes::dirt(random, 9);
     }
     let (answer, _) = judge::run(met, random, &lent)?;
-    met.count_scratch("run", length, answer)
+    met.count_length("run", &SCRATCH_LENGTHS, length, answer)
+}
+
+/// A state of any length, the right one among them. With another one the list is at times wrong besides.
+pub fn with_state_lengths(met: &mut Met, random: &mut Random, index: u64) -> Outcome {
+    let mut lent = small_lawful(random, 3);
+    let length = STATE_LENGTHS.in_turn(random, index);
+    lent.state.resize(length, random.word() as u8);
+    if length != STATE_BYTES && random.one_in(2) {
+        lent.inputs = scenes::dirt(random, 9);
+    }
+    let (answer, _) = judge::run(met, random, &lent)?;
+    met.count_length("run", &STATE_LENGTHS, length, answer)
 }
 
 /// The scratch holds the bits that one of the run's instants sets, as if they had not been cleared.
@@ -191,7 +205,7 @@ pub fn on_old_bits(met: &mut Met, random: &mut Random, _: u64) -> Outcome {
 pub fn of_checked_scores(met: &mut Met, random: &mut Random, index: u64) -> Outcome {
     let lent = RunLent {
         score: scenes::checked_score(random, index),
-        state: state_bytes(RUNNING, [0]),
+        state: numbered(state_bytes(RUNNING, [0]), scenes::any_number(random)),
         inputs: list_bytes(&[vec![], vec![0]]),
         journal: scenes::dirt(random, 64),
         scratch: scenes::dirt(random, SCRATCH_BYTES),
@@ -202,19 +216,42 @@ pub fn of_checked_scores(met: &mut Met, random: &mut Random, index: u64) -> Outc
 /// A run split at random points, on one state, writes the whole run's journal and leaves its state.
 pub fn split(met: &mut Met, random: &mut Random, _: u64) -> Outcome {
     let whole = any_lawful(random, 10);
-    let (_, after_whole) = judge::run(met, random, &whole)?;
+    judge_split(met, random, &whole)
+}
+
+/// The same where the last number may be reached: it ends the whole, and one of the parts and all behind it.
+pub fn split_at_the_last(met: &mut Met, random: &mut Random, _: u64) -> Outcome {
+    let mut whole = any_lawful(random, 10);
+    whole.state = numbered(whole.state, LAST_NUMBER - random.below(8));
+    judge_split(met, random, &whole)
+}
+
+fn judge_split(met: &mut Met, random: &mut Random, whole: &RunLent) -> Outcome {
+    let (answer_whole, after_whole) = judge::run(met, random, whole)?;
     let mut part = whole.clone();
     let mut journal = Vec::new();
     for inputs in parts(random, &whole.inputs) {
         part.inputs = inputs;
         part.journal = vec![0; whole.journal.len()];
         let (answer, after) = judge::run(met, random, &part)?;
-        known(answer, answer == Answer::Accepted(instants(&part.inputs).len() as u64))?;
+        known(answer, answer == answer_with_room(&part))?;
         journal.extend(written(&after.journal));
         part.state = after.state;
     }
+    known(answer_whole, answer_whole == answer_with_room(whole))?;
     ensure(part.state == after_whole.state, "the parts leave another state than the whole")?;
+    ensure(instants(&journal).len() as u64 == answer_whole.written(), "the parts write other instants than the whole")?;
     ensure(after_whole.journal.starts_with(&journal), "the parts' journals are not the whole's")
+}
+
+/// The answer to a lawful run with room for its journal: all instants of its list, or as many as have numbers.
+fn answer_with_room(lent: &RunLent) -> Answer {
+    let (instants, left) = (instants(&lent.inputs).len() as u64, u64::from(LAST_NUMBER - number_of(&lent.state)));
+    if instants <= left {
+        Answer::Accepted(instants)
+    } else {
+        refused(18, left)
+    }
 }
 
 /// A list in parts that end where instants end; some of them are empty.

@@ -132,7 +132,7 @@ fn ladders() -> Vec<Case> {
         }),
         case("1,021 agents are reduced before an abort, and the run goes on", |met| {
             let list = [instant_word(0); 3];
-            runs_to(met, &ladder(abort()), &list, &[instant_word(2); 3], State::Aborted.bytes())
+            runs_to(met, &ladder(abort()), &list, &[instant_word(2); 3], state_bytes(ABORTED, []))
         }),
     ]
 }

@@ -48,7 +48,7 @@ pub const COUNT: u64 = 1 + 10 + 100 + 1_000 + 10_000;
 pub fn every_list(met: &mut Met, random: &mut Random, index: u64) -> Outcome {
     let lent = RunLent {
         score: score().bytes(),
-        state: state_bytes(RUNNING, [4]),
+        state: numbered(state_bytes(RUNNING, [4]), scenes::any_number(random)),
         inputs: to_bytes(&words_of(index)),
         journal: scenes::dirt(random, 40),
         scratch: scenes::dirt(random, SCRATCH_BYTES),

@@ -8,12 +8,16 @@ use second::guarded::GUARDS;
 use second::lent::*;
 use second::random::Random;
 use second::sample::{faulty, replaced, S};
+use second::scenes::STATE_LENGTHS;
 use second::settings::{binomial, MOST_SWITCHES};
 use second::tests::{case, same_call, Case, Met, Outcome};
 use second::words::*;
 
 pub fn all() -> Vec<Case> {
-    [sample(), one_after_another(), sixteen(), formulas(), switches(), sizes(), order()].into_iter().flatten().collect()
+    [sample(), one_after_another(), sixteen(), formulas(), switches(), sizes(), order(), numbers()]
+        .into_iter()
+        .flatten()
+        .collect()
 }
 
 fn lent(score: &[u32], awake: &[usize], switches: &[u8], k: u32) -> SettingsLent {
@@ -56,7 +60,7 @@ fn by_k(met: &mut Met, lent: &SettingsLent, wanted: impl Fn(usize) -> [u32; 3]) 
 
 fn sample() -> Vec<Case> {
     let aborting = || replaced(&S, &[(2, 0x4000_0001)]);
-    let aborted = |switches: &[u8]| SettingsLent { state: State::Aborted.bytes(), ..lent(&S, &[], switches, 0) };
+    let aborted = |switches: &[u8]| SettingsLent { state: state_bytes(ABORTED, []), ..lent(&S, &[], switches, 0) };
     vec![
         case("S from its start, switches 1, 2 and 3", |met| {
             each_k(met, &lent(&S, &[4], &[1, 2, 3], 0), &[[1, 0, 0], [3, 0, 0], [1, 2, 0], [0, 1, 0]])
@@ -140,7 +144,7 @@ fn sixteen() -> Vec<Case> {
         case("16 switches, all settings a clash", move |met| by_k(met, &awake(tell(0)), |k| [0, all(k), 0])),
         case("16 switches, all settings aborted", move |met| by_k(met, &awake(abort()), |k| [0, 0, all(k)])),
         case("16 switches, from an aborted state", move |met| {
-            let lent = SettingsLent { state: State::Aborted.bytes(), ..awake(skip()) };
+            let lent = SettingsLent { state: state_bytes(ABORTED, []), ..awake(skip()) };
             by_k(met, &lent, |k| [0, 0, all(k)])
         }),
     ]
@@ -276,8 +280,8 @@ fn order() -> Vec<Case> {
                 both(met, &SettingsLent { score: lent.score, ..wrong(state) }, refused(number, value))
             })
         }),
-        case("a state of another length: 8, before 9 and 17", |met| {
-            [0, 4, 128, 131, 133, 136, 264].iter().try_for_each(|&len| {
+        case("a state of another length, also of 132 bytes: 8, before 9 and 17", |met| {
+            STATE_LENGTHS.all_wrong().try_for_each(|len| {
                 let mut right = lent(&S, &[4], &[1], 1);
                 right.state.resize(len, 0);
                 both(met, &right, refused(8, 0))?;
@@ -302,5 +306,52 @@ fn order() -> Vec<Case> {
             })
         }),
         case("the last agent of a score is lawful", |met| counts(met, &lent(&S, &[0, 1, 2, 3, 4], &[1], 1), [1, 0, 0])),
+    ]
+}
+
+/// Instant numbers at which nothing may change.
+const NUMBERS: [u32; 8] = [0, 1, 0xFF, 0x0102_0304, RUNNING, LAST_NUMBER - 2, LAST_NUMBER - 1, LAST_NUMBER];
+
+/// The same call at each of these numbers.
+fn at_each_number(met: &mut Met, lent: &SettingsLent, judge: impl Fn(&mut Met, &SettingsLent) -> Outcome) -> Outcome {
+    NUMBERS.iter().try_for_each(|&number| {
+        judge(met, &SettingsLent { state: numbered(lent.state.clone(), number), ..lent.clone() })
+    })
+}
+
+/// The number is ignored, also where it is the last, and stays as it is.
+fn numbers() -> Vec<Case> {
+    let aborted = || SettingsLent { state: state_bytes(ABORTED, []), ..lent(&S, &[], &[1, 2, 3], 2) };
+    vec![
+        case("S from its start at any number", |met| {
+            at_each_number(met, &lent(&S, &[4], &[1, 2, 3], 0), |met, lent| {
+                each_k(met, lent, &[[1, 0, 0], [3, 0, 0], [1, 2, 0], [0, 1, 0]])
+            })
+        }),
+        case("S aborted at any number", move |met| {
+            at_each_number(met, &aborted(), |met, lent| counts(met, lent, [0, 0, 3]))
+        }),
+        case("S with an abort at any number", |met| {
+            let aborting = replaced(&S, &[(2, 0x4000_0001)]);
+            at_each_number(met, &lent(&aborting, &[4], &[1, 2, 3], 1), |met, lent| counts(met, lent, [2, 0, 1]))
+        }),
+        case("no switches at any number", |met| {
+            at_each_number(met, &lent(&S, &[4], &[], 0), |met, lent| counts(met, lent, [1, 0, 0]))
+        }),
+        case("more settings at the last number than there are numbers left", |met| {
+            let lent = lent(&idle(17), &[0], &ONE_TO_SIXTEEN, 8);
+            let state = numbered(lent.state.clone(), LAST_NUMBER - 100);
+            counts(met, &SettingsLent { state, ..lent }, [12_870, 0, 0])
+        }),
+        case("wrong switches at any number: 17", move |met| {
+            at_each_number(met, &lent(&S, &[4], &[1, 4], 1), is_17)?;
+            at_each_number(met, &SettingsLent { k: 4, ..aborted() }, is_17)
+        }),
+        case("an unlawful state at any number: 9", |met| {
+            let unlawful = |state| SettingsLent { state, ..lent(&S, &[], &[1], 1) };
+            [state_bytes(RUNNING, [5]), state_bytes(ABORTED, [4]), state_bytes(0, [])]
+                .into_iter()
+                .try_for_each(|state| at_each_number(met, &unlawful(state), |met, lent| both(met, lent, refused(9, 0))))
+        }),
     ]
 }

@@ -10,6 +10,7 @@ mod promises;
 mod refusals;
 mod trials;
 
+use second::scenes::STATE_LENGTHS;
 use second::settings::{FAULTS, MOST_SWITCHES};
 use second::tests::{self, Category, Tests, Trial};
 use std::process::ExitCode;
@@ -30,7 +31,7 @@ const CATEGORIES: &[Category<Trial>] = &[
     ("the last token, and one past it", 1_500, refusals::unknown),
     ("all switches pressed, and more", 1_500, refusals::k_too_large),
     ("any switches", 4_000, refusals::dirty),
-    ("states of other lengths", 2_000, refusals::other_lengths),
+    ("states of every length", 7_200, refusals::state_lengths),
     ("unlawful states", 3_000, refusals::unlawful_states),
     ("damaged scores", 12_000, refusals::damaged_scores),
     ("scores of the score check", 12_000, refusals::checked_scores),
@@ -38,6 +39,7 @@ const CATEGORIES: &[Category<Trial>] = &[
     ("the switches in another order", 5_000, promises::order),
     ("each setting as an instant", 6_000, promises::own_instants),
     ("none pressed as an instant without input", 2_000, promises::none_pressed),
+    ("the state at another number", 3_000, promises::numbers),
 ];
 
 fn test(tests: &mut Tests) {
@@ -45,7 +47,8 @@ fn test(tests: &mut Tests) {
     tests.categories(CATEGORIES, |trial, met, random, index| trial(met, random, index));
     tests.require_numbers("settings", (0..=9).chain([17]));
     tests.require_facts("settings");
-    FAULTS.iter().for_each(|fault| tests.require_noted(fault));
+    tests.require_lengths("settings", &STATE_LENGTHS);
+    FAULTS.iter().chain(&promises::AT_LAST).for_each(|what| tests.require_noted(what));
     judge::ENDS.iter().for_each(|(_, ends)| tests.require_noted(ends));
 }
 

@@ -20,11 +20,11 @@ fn answer(met: &mut Met, random: &mut Random, lent: &SettingsLent) -> Result<u64
     Ok(answer)
 }
 
-/// The status of the library's instant from the same state, with these tokens as input.
+/// The status of the library's instant from the same state, at number 0, with these tokens as input.
 fn status(random: &mut Random, lent: &SettingsLent, tokens: &[Token]) -> Result<u32, String> {
     let lent = InstantLent {
         score: lent.score.clone(),
-        state: lent.state.clone(),
+        state: numbered(lent.state.clone(), 0),
         input: map_bytes(tokens),
         store: scenes::dirt(random, MAP_BYTES),
         output: scenes::dirt(random, MAP_BYTES),
@@ -72,4 +72,28 @@ pub fn none_pressed(met: &mut Met, random: &mut Random, _: u64) -> Outcome {
         same(answer(met, random, &lent)?, Answer::Settings(counts)).map_err(|difference| told(&lent, &difference))?;
     }
     Ok(())
+}
+
+/// What must be met among the counts.
+pub const AT_LAST: [&str; 2] =
+    ["settings at the last number of a running state", "settings at the last number of an aborted state"];
+
+/// The number of the state does not matter, and is not changed.
+pub fn numbers(met: &mut Met, random: &mut Random, _: u64) -> Outcome {
+    let mut lent = small_switchboard(random);
+    if random.one_in(2) {
+        lent.state = state_bytes(ABORTED, []);
+    }
+    lent.state = numbered(lent.state, 0);
+    let at_0 = answer(met, random, &lent)?;
+    for number in [1, scenes::early_number(random), LAST_NUMBER - 1, LAST_NUMBER] {
+        lent.state = numbered(lent.state, number);
+        let (answer, after) = library::settings(&lent, random.below(8) as usize, random.pick(&GUARDS))?;
+        met.count("settings", &lent.score, answer);
+        ensure(answer == at_0, "another number has another answer")
+            .and_then(|()| ensure(after.state == lent.state, "the state is changed"))
+            .map_err(|difference| told(&lent, &difference))?;
+    }
+    met.note(AT_LAST[usize::from(is_aborted(&lent.state))]);
+    judge_known(met, random, &lent, 0)
 }

@@ -6,7 +6,7 @@ use second::calls::SettingsLent;
 use second::decoded::Decoded;
 use second::lent::*;
 use second::random::Random;
-use second::scenes;
+use second::scenes::{self, STATE_LENGTHS};
 use second::settings::{faults, FAULTS, MOST_SWITCHES};
 use second::tests::{ensure, Met, Outcome};
 
@@ -113,18 +113,19 @@ pub fn dirty(met: &mut Met, random: &mut Random, _: u64) -> Outcome {
     judge(met, random, &lent).map(|_| ())
 }
 
-/// A state of another length; the switches are at times wrong besides.
-pub fn other_lengths(met: &mut Met, random: &mut Random, _: u64) -> Outcome {
+/// A state of any length, the right one among them. With another one the rest is at times wrong besides.
+pub fn state_lengths(met: &mut Met, random: &mut Random, index: u64) -> Outcome {
     let mut lent = small_switchboard(random);
-    judge_known(met, random, &lent, 0)?;
-    if random.one_in(3) {
+    let length = STATE_LENGTHS.in_turn(random, index);
+    if length != STATE_BYTES && random.one_in(3) {
         lent.state = scenes::unlawful_state(random, &Decoded::new(&lent.score));
     }
-    if random.one_in(3) {
+    if length != STATE_BYTES && random.one_in(3) {
         dirty_switches(random, &mut lent);
     }
-    scenes::resize(random, &mut lent.state);
-    judge_known(met, random, &lent, 8)
+    lent.state.resize(length, random.word() as u8);
+    let answer = judge(met, random, &lent)?;
+    met.count_length("settings", &STATE_LENGTHS, length, answer)
 }
 
 /// A state with the last agent is accepted, one with an agent past it is not, nor are others; the switches are at times
@@ -133,9 +134,10 @@ pub fn unlawful_states(met: &mut Met, random: &mut Random, _: u64) -> Outcome {
     let mut lent = small_switchboard(random);
     let decoded = Decoded::new(&lent.score);
     let last = decoded.agents.len() - 1;
-    lent.state = state_bytes(RUNNING, [last]);
+    let number = scenes::any_number(random);
+    lent.state = numbered(state_bytes(RUNNING, [last]), number);
     judge_known(met, random, &lent, 0)?;
-    let past = state_bytes(RUNNING, [last, last + 1]);
+    let past = numbered(state_bytes(RUNNING, [last, last + 1]), number);
     lent.state = if random.one_in(3) { past } else { scenes::unlawful_state(random, &decoded) };
     if random.one_in(2) {
         dirty_switches(random, &mut lent);
@@ -163,7 +165,7 @@ pub fn damaged_scores(met: &mut Met, random: &mut Random, _: u64) -> Outcome {
 pub fn checked_scores(met: &mut Met, random: &mut Random, index: u64) -> Outcome {
     let lent = SettingsLent {
         score: scenes::checked_score(random, index),
-        state: state_bytes(RUNNING, [0]),
+        state: numbered(state_bytes(RUNNING, [0]), scenes::any_number(random)),
         switches: vec![0],
         k: random.below(2),
     };

@@ -31,12 +31,13 @@ pub fn any_k(random: &mut Random, switches: &[u8]) -> u32 {
     random.below(switches.len() as u32 + 1)
 }
 
-/// A call with nothing wrong about it.
+/// A call with nothing wrong about it, at any instant number.
 pub fn lawful(random: &mut Random, score: Vec<u8>, count: usize) -> SettingsLent {
     let decoded = Decoded::new(&score);
     let switches = switches(random, decoded.tokens, count);
     let is_start = random.one_in(2);
     let state = if is_start { State::start(&decoded).bytes() } else { scenes::lawful_state(random, &decoded) };
+    let state = numbered(state, scenes::any_number(random));
     SettingsLent { state, k: any_k(random, &switches), switches, score }
 }
 
@@ -118,7 +119,8 @@ pub fn every_list(met: &mut Met, random: &mut Random, _: u64) -> Outcome {
 }
 
 pub fn aborted_states(met: &mut Met, random: &mut Random, _: u64) -> Outcome {
-    let lent = SettingsLent { state: State::Aborted.bytes(), ..small_switchboard(random) };
+    let state = numbered(state_bytes(ABORTED, []), scenes::any_number(random));
+    let lent = SettingsLent { state, ..small_switchboard(random) };
     judge_known(met, random, &lent, 0)
 }
 

@@ -11,7 +11,7 @@ use second::calls::{instant_call, journal, journal_check_call, run_call};
 use second::calls::{InstantLent, JournalCheckLent, Lent, RunLent};
 use second::decoded::Decoded;
 use second::guarded::GUARDS;
-use second::lent::{State, SCRATCH_BYTES};
+use second::lent::{numbered, State, LAST_NUMBER, SCRATCH_BYTES};
 use second::random::Random;
 use second::tests::{same_call, shown};
 use second::{lawful, scenes};
@@ -42,8 +42,7 @@ impl Soak {
     fn round(&mut self, random: &mut Random) {
         let score = if random.one_in(50) { scenes::special_score(random) } else { scenes::score(random) };
         let decoded = Decoded::new(&score);
-        let starts = random.one_in(2);
-        let mut state = if starts { State::start(&decoded).bytes() } else { scenes::lawful_state(random, &decoded) };
+        let mut state = any_state(random, &decoded);
         for _ in 0..random.between(1, 12) {
             state = match random.below(3) {
                 0 => self.one_run(random, &score, state),
@@ -59,7 +58,7 @@ impl Soak {
         let expected = instant_call(&lent, random);
         let got = instant::instant(&lent, random.below(8) as usize, random.pick(&GUARDS));
         self.compare(&lent, &expected, got);
-        self.instants += 1;
+        self.instants += u64::from(expected.0.number() == 0);
         expected.1.state
     }
 
@@ -73,7 +72,7 @@ impl Soak {
         let expected = run_call(&lent, random);
         let got = run::run(&lent, random.below(8) as usize, random.pick(&GUARDS));
         self.compare(&lent, &expected, got);
-        self.instants += written(expected.0);
+        self.instants += expected.0.written();
         expected.1.state
     }
 
@@ -87,12 +86,14 @@ impl Soak {
     }
 }
 
-/// The instants that a run wrote, also where it was then stopped.
-fn written(answer: Answer) -> u64 {
-    match answer {
-        Answer::Accepted(written) | Answer::Refused { number: 15, value: written } => written,
-        _ => 0,
+/// The start state, or any other; at times with few instants left before the last number.
+fn any_state(random: &mut Random, decoded: &Decoded) -> Vec<u8> {
+    let starts = random.one_in(2);
+    let state = if starts { State::start(decoded).bytes() } else { scenes::lawful_state(random, decoded) };
+    if random.one_in(8) {
+        return numbered(state, LAST_NUMBER - random.below(40));
     }
+    state
 }
 
 fn soak(wanted: u64, seed: u64) -> Soak {

@@ -10,7 +10,7 @@ use second::draft::{acts, player, scenes, Draft};
 use second::guarded::GUARDS;
 use second::lent::*;
 use second::random::Random;
-use second::scenes::dirt;
+use second::scenes::{any_number, dirt};
 use second::tests::{ensure, same_call, shown, Met, Outcome};
 
 /// What must be met among the instants played.
@@ -52,6 +52,7 @@ pub fn run_shows(random: &mut Random, plain: &[u8], list: &[Vec<Token>], journal
     let (answer, after) = run::run(&lent, random.below(8) as usize, random.pick(&GUARDS))?;
     same(answer, Answer::Accepted(list.len() as u64))
         .and_then(|()| ensure(after.journal.starts_with(journal), "the run's journal is not the draft's"))
+        .and_then(|()| ensure(number_of(&after.state) as usize == list.len(), "the run leaves another number"))
         .map_err(|difference| format!("{difference}, which is {}{}", second::tests::hex(journal), shown(&lent)))
 }
 
@@ -132,7 +133,8 @@ pub fn other_calls(met: &mut Met, random: &mut Random, _: u64) -> Outcome {
     if number == ACCEPTED {
         return Ok(());
     }
-    let (state, scratch) = (state_bytes(RUNNING, [0]), dirt(random, SCRATCH_BYTES));
+    let state = numbered(state_bytes(RUNNING, [0]), any_number(random));
+    let scratch = dirt(random, SCRATCH_BYTES);
     let (input, store, output) = (map_bytes(&[]), dirt(random, MAP_BYTES), dirt(random, MAP_BYTES));
     let lent = InstantLent { score, state, input, store, output, scratch };
     same_call(&instant_call(&lent, random), &instant::instant(&lent, offset, GUARDS[0])?)?;
