@@ -49,7 +49,7 @@ impl Set {
 }
 
 /// An agent that is no watch, or a procedure, and the watch tokens that it stands under.
-type Pair = (usize, Set);
+pub type Pair = (usize, Set);
 
 /// What a path of bodies, halves and calls leads to.
 enum Reference {
@@ -245,4 +245,17 @@ pub fn translate(draft: &[u8]) -> Option<Vec<u8>> {
 /// The sizes of the plain score; nothing where its agents or procedures pass their limits.
 pub fn sizes(draft: &[u8]) -> Option<Sizes> {
     Plain::new(draft).map(|plain| plain.sizes())
+}
+
+/// What the plain score's agents and procedures stand for, and the sets that its new tokens stand for.
+pub struct Origins {
+    pub agents: Vec<Pair>,
+    pub procedures: Vec<Pair>,
+    pub sets: Vec<Set>,
+}
+
+/// The origins in the plain score; nothing where its agents or procedures pass their limits.
+pub fn origins(draft: &[u8]) -> Option<Origins> {
+    let Plain { agents, procedures, sets, .. } = Plain::new(draft)?;
+    Some(Origins { agents, procedures, sets })
 }
