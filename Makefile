@@ -11,18 +11,21 @@ CFLAGS = -std=c99 -O2 -Wall -Wextra -pedantic -Werror -Iinclude
 # The runner's binary. Where it has been built, it is installed as score-runner.
 RUNNER = target/bin/runner
 
-# Where make install puts things: include/, lib/, lib/pkgconfig/ and bin/ in it. DESTDIR is put before it.
+# The program score, of which tool/build builds what has changed.
+PROGRAM = build/tool/release/score
+
+# Where make install puts things: include/, lib/, lib/pkgconfig/, bin/ and share/ in it. DESTDIR is put before it.
 PREFIX = /usr/local
 prefix = $(abspath $(PREFIX))
-VERSION = 4.0.0
+VERSION = 4.1.0
 
 # A library made of an engine that is written by hand, passes or linear, for trying the tests.
 ENGINE = linear
 standin = build/standin-$(ENGINE)
 
-.PHONY: all run check-example test bench install clean library runner standin
+.PHONY: all run check-example test bench install install-library install-tool clean library runner tool standin
 
-all: library runner build/check build/console build/settings build/translate
+all: library runner tool build/check build/console build/settings build/translate
 
 run: runner
 	cd sample && $(abspath $(RUNNER))
@@ -39,7 +42,9 @@ bench: build/bench build/stack
 	@size $(archive) | awk 'NR > 1 { print "code: " $$1 " bytes, data that changes: " $$2 + $$3 }'
 	@build/stack sample/score
 
-install: library runner
+install: install-library install-tool
+
+install-library: library runner
 	install -d $(DESTDIR)$(prefix)/include $(DESTDIR)$(prefix)/lib/pkgconfig
 	install -m 644 include/score.h $(DESTDIR)$(prefix)/include/score.h
 	install -m 644 $(archive) $(DESTDIR)$(prefix)/lib/libscore.a
@@ -47,6 +52,13 @@ install: library runner
 	if [ -e $(RUNNER) ]; then \
 	    install -d $(DESTDIR)$(prefix)/bin && install -m 755 $(RUNNER) $(DESTDIR)$(prefix)/bin/score-runner; \
 	fi
+
+install-tool: tool
+	install -d $(DESTDIR)$(prefix)/bin $(DESTDIR)$(prefix)/share/man/man1 $(DESTDIR)$(prefix)/share/bash-completion/completions
+	install -m 755 $(PROGRAM) $(DESTDIR)$(prefix)/bin/score
+	install -m 644 tool/score.1 $(DESTDIR)$(prefix)/share/man/man1/score.1
+	$(PROGRAM) completion > build/completion
+	install -m 644 build/completion $(DESTDIR)$(prefix)/share/bash-completion/completions/score
 
 clean:
 	rm -rf build target
@@ -82,3 +94,6 @@ runner:
 ifndef SCORE_LIBRARY_DIR
 	rt check runner
 endif
+
+tool: library
+	tool/build
