@@ -1,7 +1,7 @@
 //! Texts of every kind, most of them wrong: nothing crashes or hangs, a wrong text has a place, and what is made of a
 //! right one is listed and made again as it was.
 
-use score::names::Names;
+use score::names::{Names, KEYWORDS};
 use score::problem::Problem;
 use score::score::Score;
 use score::text::{make, print, Comments};
@@ -27,26 +27,8 @@ fn listing(random: &mut Random) -> String {
     print(&score, &names, &Comments::default()).text
 }
 
-const WORDS: [&str; 40] = [
-    "tokens",
-    "ports",
-    "to",
-    "procedure",
-    "from",
-    "unused",
-    "rule",
-    "fact",
-    "and",
-    "gives",
-    "parallel",
-    "when",
-    "unless",
-    "next",
-    "watch",
-    "tell",
-    "call",
-    "skip",
-    "abort",
+/// What stands beside the words of the text form in a text that is none.
+const OTHERS: [&str; 20] = [
     "clash",
     "main",
     "up",
@@ -67,13 +49,20 @@ const WORDS: [&str; 40] = [
     "-1",
     "#",
     "é",
-    "word",
 ];
+
+fn word(random: &mut Random) -> &'static str {
+    if random.one_in(2) {
+        random.pick(&KEYWORDS)
+    } else {
+        random.pick(&OTHERS)
+    }
+}
 
 fn some_words(random: &mut Random) -> String {
     let mut text = String::new();
     for _ in 0..random.below(60) {
-        text += random.pick(&WORDS);
+        text += word(random);
         text += random.pick(&[" ", " ", " ", "\n", "\n    ", "\n        ", "\n  ", "\n\t", "\r\n", ""]);
     }
     text
@@ -112,8 +101,8 @@ fn rearrange(random: &mut Random, text: &str) -> String {
             3 => lines[at] = format!("{}{}", random.pick(&["", " ", "    ", "        "]), lines[at].trim_start()),
             _ => {
                 let mut words: Vec<&str> = lines[at].split(' ').collect();
-                let word = random.below(words.len() as u32) as usize;
-                words[word] = random.pick(&WORDS);
+                let changed = random.below(words.len() as u32) as usize;
+                words[changed] = word(random);
                 lines[at] = words.join(" ");
             }
         }

@@ -49,14 +49,14 @@ pub fn play(
     open::check_apart(file, inputs.unwrap_or(Path::new(STANDARD_INPUT)))?;
     let plain = open::score(file, names)?.plain()?;
     let lines = open_inputs(inputs, &plain, json)?;
-    let mut session = Session::new(file, plain, json);
-    session.inputs = inputs;
-    session.journal = journal;
-    session.keep_journal()?;
-    let played = session.play(lines);
-    let written = journal.map_or(Ok(()), |journal| session.write_journal(journal));
-    let ended = session.end(played, written);
-    session.out.flush()?;
+    let mut player = Player::new(file, plain, json);
+    player.inputs = inputs;
+    player.journal = journal;
+    player.keep_journal()?;
+    let played = player.play(lines);
+    let written = journal.map_or(Ok(()), |journal| player.write_journal(journal));
+    let ended = player.end(played, written);
+    player.out.flush()?;
     ended
 }
 
@@ -93,7 +93,7 @@ fn refused(path: &Path, refusal: Refusal, what: Option<String>) -> Failure {
 }
 
 /// A score that is played.
-struct Session<'a> {
+struct Player<'a> {
     file: &'a Path,
     plain: Plain,
     /// Where an input list or lines come from, and where the journal goes.
@@ -108,13 +108,13 @@ struct Session<'a> {
     json: bool,
 }
 
-impl<'a> Session<'a> {
-    fn new(file: &'a Path, plain: Plain, json: bool) -> Session<'a> {
+impl<'a> Player<'a> {
+    fn new(file: &'a Path, plain: Plain, json: bool) -> Player<'a> {
         let (state, out) = (State::start(&plain.score), Output::new());
-        Session { file, plain, inputs: None, journal: None, state, list: Vec::new(), before: Vec::new(), out, json }
+        Player { file, plain, inputs: None, journal: None, state, list: Vec::new(), before: Vec::new(), out, json }
     }
 
-    /// Writes the journal so far where it goes, with no word of it, so that a session that breaks off has its journal.
+    /// Writes the journal so far where it goes, with no word of it, so that it is there where play breaks off.
     fn keep_journal(&self) -> Result<(), Failure> {
         self.journal.map_or(Ok(()), |path| self.save(path))
     }
