@@ -5,7 +5,7 @@ ghost use Prim.Native.Nat.{ℕ, _+_, _*_, _-_, _/_, _^_, _≤_};
 ghost use lib.ListN.{length, replicate, getD, take, drop};
 ghost use lib.Dec.{eqb, leb};
 ghost use Rattle.laws.specs.Sets.{any};
-ghost use Rattle.store.specs.Flags.{setOf};
+ghost use Rattle.flags.specs.Flags.{setOf};
 ghost use Rattle.bits.specs.Bits.{bitsValue, bytesOf};
 ghost use Rattle.bits.specs.Spread.{Spread};
 

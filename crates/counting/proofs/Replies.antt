@@ -14,7 +14,7 @@ use Rattle.verdicts.specs.Verdicts.{numberOf}
 use Rattle.scorefile.specs.Check.{verdict}
 use Rattle.scorefile.proofs.Stages.{passed}
 use Rattle.scorefile.proofs.Stages as stages
-use Rattle.store.proofs.Flags.{setOf-none}
+use Rattle.flags.proofs.Flags.{setOf-none}
 use Rattle.lent.specs.Lengths.{stateBytes}
 use Rattle.lent.specs.States.{stateFault, stateOf}
 use Rattle.standing.specs.declared.Standing.{Standing}

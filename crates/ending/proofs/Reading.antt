@@ -23,8 +23,8 @@ use Rattle.tcc.specs.Lawful.{Lawful}
 use Rattle.tcc.specs.declared.Agent.{Agent}
 use Rattle.tcc.specs.declared.Agent.the-variants.{Skip, Abort, Tell, Parallel, When, Next, Unless, Call}
 use Rattle.tcc.proofs.FixedPoint.{awake-member, member-awake}
-use Rattle.store.specs.Flags.{setOf, flagsOf}
-use Rattle.store.proofs.Flags.{set-kept, set-here, set-cases, setOf-none, flags-settled}
+use Rattle.flags.specs.Flags.{setOf, flagsOf}
+use Rattle.flags.proofs.Flags.{set-kept, set-here, set-cases, setOf-none, flags-settled}
 use Rattle.ending.specs.Ended.{flagged, Read}
 
 pub flagged-length : (l : List ℕ) (flags : List Bool) → length (flagged l flags) ≡ length flags

@@ -16,7 +16,7 @@ use Rattle.laws.specs.Sets.{any, has}
 use Rattle.tcc.specs.Score.{Score, agentAt}
 use Rattle.tcc.specs.Instant.{isAbort, reducible, leaves, reducedOf, leftAwake}
 use Rattle.tcc.specs.declared.Agent.{Agent}
-use Rattle.store.specs.Flags.{setOf, flagsOf}
+use Rattle.flags.specs.Flags.{setOf, flagsOf}
 use Rattle.bits.specs.Bits.{bitsValue}
 use Rattle.lent.specs.Lengths.{scratchBytes}
 use Rattle.lent.specs.Scratch.{reducedIn}

@@ -6,12 +6,12 @@ ghost use Rattle.tcc.specs.Score.{agentAt};
 ghost use Rattle.tcc.specs.Instant.{isAbort, leaves};
 ghost use Rattle.format.specs.Decode.{sizes, decode};
 ghost use Rattle.format.specs.Playable.{Playable};
-ghost use Rattle.store.specs.Flags.{setOf};
+ghost use Rattle.flags.specs.Flags.{setOf};
 ghost use Rattle.lent.specs.Lengths.{noScratch};
 ghost use Rattle.ending.specs.Ended.{fateOf, flagged, Read, Parted, Ended};
 use format::Sizes;
-use store::Agents;
-use store::Tokens;
+use flags::Agents;
+use flags::Tokens;
 use tcc::Agent;
 
 // What an instant comes to: whether it aborts; if not, which agents are awake next.

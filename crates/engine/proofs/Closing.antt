@@ -12,8 +12,8 @@ use Rattle.tcc.specs.Instant.{held, reached}
 use Rattle.tcc.proofs.Closure.{Follows}
 use Rattle.tcc.proofs.Store.{follows-rules, follows-clash, store-follows, closes-above, closes-follows, closes-least, closure-exact}
 use Rattle.tcc.proofs.FixedPoint.{reach}
-use Rattle.store.specs.Flags.{setOf, flagsOf}
-use Rattle.store.proofs.Flags.{flagsOf-member, member-flagsOf}
+use Rattle.flags.specs.Flags.{setOf, flagsOf}
+use Rattle.flags.proofs.Flags.{flagsOf-member, member-flagsOf}
 use Rattle.engine.specs.Marks.{Shut}
 
 module _ (sc : Score) (lawful : Lawful sc) (given : List ℕ) where

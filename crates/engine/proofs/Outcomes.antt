@@ -13,8 +13,8 @@ use Rattle.laws.proofs.Booleans.{true-is-false}
 use Rattle.tcc.specs.Score.{Score, agentAt}
 use Rattle.tcc.specs.Instant.{isAbort, leftAwake, instant}
 use Rattle.tcc.specs.FixedPoint.{Settled}
-use Rattle.store.specs.Flags.{setOf, flagsOf}
-use Rattle.store.proofs.Flags.{flag-member, member-flag, setOf-none, flagsOf-length, flagsOf-member, member-flagsOf, flags-settled}
+use Rattle.flags.specs.Flags.{setOf, flagsOf}
+use Rattle.flags.proofs.Flags.{flag-member, member-flag, setOf-none, flagsOf-length, flagsOf-member, member-flagsOf, flags-settled}
 use Rattle.engine.specs.declared.Outcome.{Outcome}
 use Rattle.engine.specs.Marks.{Fixed}
 use Rattle.engine.specs.Outcome.{outcomeOf}

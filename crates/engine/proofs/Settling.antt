@@ -14,8 +14,8 @@ use Rattle.tcc.specs.Store.{closure}
 use Rattle.tcc.specs.FixedPoint.{Marked, Sound}
 use Rattle.tcc.specs.declared.Agent.{Agent}
 use Rattle.tcc.proofs.FixedPoint.{reach}
-use Rattle.store.specs.Flags.{setOf, flagsOf}
-use Rattle.store.proofs.Flags.{member-within}
+use Rattle.flags.specs.Flags.{setOf, flagsOf}
+use Rattle.flags.proofs.Flags.{member-within}
 use Rattle.marking.specs.Passed.{Served, Passed}
 use Rattle.engine.specs.Marks.{Shut, Fixed}
 use Rattle.engine.proofs.Closing.{closed-shut, closed-above, closed-reached}

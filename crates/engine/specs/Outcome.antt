@@ -1,7 +1,7 @@
 -- Contracts of inner functions: what the engine returns of an instant.
 --     outcomeOf      an answer, with the store and the agents awake next as flags
 use Rattle.tcc.specs.Instant.{Answer, count}
-use Rattle.store.specs.Flags.{flagsOf}
+use Rattle.flags.specs.Flags.{flagsOf}
 use Rattle.engine.specs.declared.Outcome.{Outcome}
 
 unfoldable pub outcomeOf : Answer → Outcome

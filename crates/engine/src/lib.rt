@@ -3,13 +3,13 @@ ghost use lib.ListN.{length};
 ghost use Rattle.tcc.specs.Instant.{instant};
 ghost use Rattle.format.specs.Decode.{sizes, decode};
 ghost use Rattle.format.specs.Playable.{Playable};
-ghost use Rattle.store.specs.Flags.{setOf};
+ghost use Rattle.flags.specs.Flags.{setOf};
 ghost use Rattle.lent.specs.Lengths.{noScratch};
 ghost use Rattle.engine.specs.Marks.{Fixed};
 ghost use Rattle.engine.specs.Outcome.{outcomeOf};
 use format::Sizes;
-use store::Agents;
-use store::Tokens;
+use flags::Agents;
+use flags::Tokens;
 
 // What the engine returns of an instant.
 pub struct Outcome {

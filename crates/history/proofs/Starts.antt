@@ -16,8 +16,8 @@ use Rattle.tcc.specs.Instant.{running, startState}
 use Rattle.format.specs.Decode.{sizes, decode}
 use Rattle.format.specs.Playable.{Playable}
 use Rattle.format.proofs.Decode.{playable-agents, sizes-few}
-use Rattle.store.specs.Flags.{setOf, flagsOf}
-use Rattle.store.proofs.Flags.{set-here, set-cases, setOf-none, flags-settled}
+use Rattle.flags.specs.Flags.{setOf, flagsOf}
+use Rattle.flags.proofs.Flags.{set-here, set-cases, setOf-none, flags-settled}
 use Rattle.lent.specs.States.{stateOf, asBytes, numbered, startBytes, LawfulState}
 use Rattle.lent.proofs.Round.{state-round, lawful-bytes, faultless-lawful}
 use Rattle.lent.proofs.Numbered.{numbered-same}

@@ -17,8 +17,8 @@ use Rattle.tcc.specs.Lawful.{Lawful}
 use Rattle.tcc.specs.Instant.{State, running, aborted, Answer, output, after}
 use Rattle.tcc.proofs.Output.{output-same}
 use Rattle.words.specs.Word.{wordAt}
-use Rattle.store.specs.Flags.{setOf, flagsOf}
-use Rattle.store.proofs.Flags.{flagsOf-same}
+use Rattle.flags.specs.Flags.{setOf, flagsOf}
+use Rattle.flags.proofs.Flags.{flagsOf-same}
 use Rattle.bits.proofs.Filled.{from-none}
 use Rattle.lent.specs.States.{abortedWord, agentsIn, stateFault, stateOf, asBytes, LawfulState, SameState}
 use Rattle.lent.proofs.Agents.{agents-set}

@@ -7,7 +7,7 @@ use mathlib.Core.List.{List}
 use Prim.Native.Nat.{ℕ}
 use Rattle.tcc.specs.Instant.{Answer, output, after}
 use Rattle.format.specs.Decode.{sizes, decode}
-use Rattle.store.specs.Flags.{flagsOf}
+use Rattle.flags.specs.Flags.{flagsOf}
 use Rattle.lent.specs.States.{stateFault, stateOf, asBytes, LawfulState}
 use Rattle.standing.specs.Standing.{stateIn}
 use Rattle.history.specs.declared.Step.{Step}

@@ -5,14 +5,14 @@ ghost use lib.ListN.{length, getD};
 ghost use Rattle.tcc.specs.Instant.{startState, answer};
 ghost use Rattle.format.specs.Decode.{sizes, decode};
 ghost use Rattle.format.specs.Playable.{Playable};
-ghost use Rattle.store.specs.Flags.{setOf};
+ghost use Rattle.flags.specs.Flags.{setOf};
 ghost use Rattle.lent.specs.Lengths.{stateBytes, noScratch};
 ghost use Rattle.lent.specs.States.{stateOf, asBytes, startBytes, LawfulState};
 ghost use Rattle.standing.specs.Standing.{stateIn};
 ghost use Rattle.history.specs.Stepped.{Stepped};
 use format::Sizes;
 use standing::Standing;
-use store::Tokens;
+use flags::Tokens;
 use verdicts::Verdict;
 
 // What a run or a journal check answers.

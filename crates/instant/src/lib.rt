@@ -3,14 +3,14 @@ ghost use lib.ListN.{length};
 ghost use Rattle.tcc.specs.Instant.{answer};
 ghost use Rattle.format.specs.Decode.{sizes, decode};
 ghost use Rattle.format.specs.Playable.{Playable};
-ghost use Rattle.store.specs.Flags.{setOf};
+ghost use Rattle.flags.specs.Flags.{setOf};
 ghost use Rattle.engine.specs.Outcome.{outcomeOf};
 ghost use Rattle.lent.specs.Lengths.{stateBytes, noScratch};
 ghost use Rattle.lent.specs.States.{stateOf};
 ghost use Rattle.instant.specs.InstantCall.{lent, InstantCall};
 use engine::Outcome;
 use format::Sizes;
-use store::Tokens;
+use flags::Tokens;
 use verdicts::Verdict;
 
 // What an instant call answers.

@@ -17,8 +17,8 @@ use lib.ListN.{length, getD, length-append}
 use Rattle.laws.specs.Sets.{below, keep}
 use Rattle.laws.proofs.Booleans.{true-is-false}
 use Rattle.laws.proofs.Sets.{on-keep, keep-kept, lt-below, keep-append}
-use Rattle.store.specs.Flags.{setOf}
-use Rattle.store.proofs.Flags.{flag-member, member-flag}
+use Rattle.flags.specs.Flags.{setOf}
+use Rattle.flags.proofs.Flags.{flag-member, member-flag}
 use Rattle.journal.proofs.Rising.{rising-keep, rising-unique, flags-rising, below-rising}
 
 unfoldable pub kept : List Bool → ℕ → List ℕ

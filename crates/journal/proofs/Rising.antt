@@ -23,8 +23,8 @@ use Rattle.tcc.specs.Score.{Score}
 use Rattle.tcc.specs.Instant.{output}
 use Rattle.tcc.proofs.Output.{output-either}
 use Rattle.words.specs.Map.{inMap}
-use Rattle.store.specs.Flags.{setOf, flagsOf}
-use Rattle.store.proofs.Flags.{member-flag, flagsOf-member, member-flagsOf}
+use Rattle.flags.specs.Flags.{setOf, flagsOf}
+use Rattle.flags.proofs.Flags.{member-flag, flagsOf-member, member-flagsOf}
 use Rattle.maps.specs.Maps.{tokensIn, mapOf}
 use Rattle.maps.proofs.Round.{map-round}
 use Rattle.journal.specs.History.{Rising, none, one, more}

@@ -3,7 +3,7 @@ ghost use mathlib.Core.Bool.{false};
 ghost use mathlib.Core.List.{map, _++_};
 ghost use Prim.Native.Nat.{ℕ, _+_, _*_, _^_, _≤_, _<_};
 ghost use lib.ListN.{length, getD, take, drop};
-ghost use Rattle.store.specs.Flags.{setOf};
+ghost use Rattle.flags.specs.Flags.{setOf};
 ghost use Rattle.bits.specs.Bits.{bytesOf};
 ghost use Rattle.journal.specs.History.{instantWords};
 

@@ -7,7 +7,7 @@ use Prim.Native.Nat.{ℕ}
 use Rattle.tcc.specs.Instant.{State, Answer, answer}
 use Rattle.format.specs.Decode.{sizes, decode}
 use Rattle.format.specs.Playable.{Playable}
-use Rattle.store.specs.Flags.{setOf}
+use Rattle.flags.specs.Flags.{setOf}
 use Rattle.lent.specs.States.{LawfulState}
 use Rattle.standing.specs.Standing.{stateIn}
 use Rattle.parts.specs.Instants.{inputsIn}

@@ -15,8 +15,8 @@ use lib.ListN.{length, getD}
 use lib.Seq.{ext-getD}
 use Rattle.laws.proofs.Booleans.{true-is-false, neither}
 use Rattle.words.specs.Word.{field}
-use Rattle.store.specs.Flags.{setOf, flagsOf}
-use Rattle.store.proofs.Flags.{flags-settled}
+use Rattle.flags.specs.Flags.{setOf, flagsOf}
+use Rattle.flags.proofs.Flags.{flags-settled}
 use Rattle.form.specs.Form.{statusOf}
 use Rattle.parts.specs.Instants.{tokensOf, inputsIn}
 use Rattle.journal.specs.History.{instantWords, Rising}

@@ -6,7 +6,7 @@ ghost use Rattle.tcc.specs.Instant.{answer};
 ghost use Rattle.words.specs.Word.{words};
 ghost use Rattle.format.specs.Decode.{sizes, decode};
 ghost use Rattle.format.specs.Playable.{Playable};
-ghost use Rattle.store.specs.Flags.{setOf};
+ghost use Rattle.flags.specs.Flags.{setOf};
 ghost use Rattle.lent.specs.Lengths.{noScratch};
 ghost use Rattle.lent.specs.States.{LawfulState};
 ghost use Rattle.standing.specs.Standing.{stateIn};

@@ -20,7 +20,7 @@ use Rattle.laws.specs.Sets.{below, any}
 use Rattle.laws.proofs.Sets.{Within, on-keep, below-lt}
 use Rattle.laws.proofs.Any.{any-keep, any-add, any-same}
 use Rattle.words.specs.Word.{wordAt}
-use Rattle.store.specs.Flags.{setOf, flagsOf}
+use Rattle.flags.specs.Flags.{setOf, flagsOf}
 use Rattle.bits.specs.Bits.{bitAt}
 use Rattle.bits.specs.Spread.{Spread}
 use Rattle.bits.proofs.Bits.{bits-from}

@@ -14,7 +14,7 @@ use lib.ListN.{length, getD, take, drop, length-map, length-append}
 use Rattle.laws.specs.Sets.{below, has}
 use Rattle.laws.proofs.Lists.{map-snoc, map-same}
 use Rattle.laws.proofs.Sets.{below-length}
-use Rattle.store.specs.Flags.{setOf}
+use Rattle.flags.specs.Flags.{setOf}
 use Rattle.bits.specs.Bits.{bitsValue, bytesOf}
 use Rattle.bits.proofs.Bits.{bitsValue-same}
 use Rattle.bits.proofs.Bytes.{Written, written-more, written-all}

@@ -5,11 +5,11 @@ ghost use Prim.Native.Nat.{ℕ, _≤_};
 ghost use lib.ListN.{length, getD};
 ghost use lib.Dec.{leb};
 ghost use Rattle.laws.specs.Sets.{any};
-ghost use Rattle.store.specs.Flags.{setOf, flagsOf};
+ghost use Rattle.flags.specs.Flags.{setOf, flagsOf};
 ghost use Rattle.bits.specs.Bits.{bytesOf};
 ghost use Rattle.lent.specs.Lengths.{stateBytes};
 ghost use Rattle.lent.specs.States.{agentsIn, stateFault, agentWords, instantNumber};
-use store::Agents;
+use flags::Agents;
 
 // The bytes of a state, of a map and of the scratch.
 pub const STATE_BYTES: usize = 136;

@@ -2,10 +2,10 @@ ghost use mathlib.Core.Path.{_≡_};
 ghost use mathlib.Core.Bool.{false};
 ghost use Prim.Native.Nat.{ℕ, _≤_};
 ghost use lib.ListN.{length, getD};
-ghost use Rattle.store.specs.Flags.{setOf, flagsOf};
+ghost use Rattle.flags.specs.Flags.{setOf, flagsOf};
 ghost use Rattle.lent.specs.Lengths.{mapBytes};
 ghost use Rattle.maps.specs.Maps.{tokensIn, mapOf};
-use store::Tokens;
+use flags::Tokens;
 
 // The tokens in a map, as flags.
 pub fn read_map(map: &[u8]) -> Tokens

@@ -26,9 +26,9 @@ use Rattle.tcc.specs.FixedPoint.{Marked, Sound}
 use Rattle.tcc.specs.declared.Agent.{Agent}
 use Rattle.tcc.specs.declared.Agent.the-variants.{Skip, Abort, Tell, Parallel, When, Next, Unless, Call}
 use Rattle.tcc.proofs.FixedPoint.{reach}
-use Rattle.store.specs.Flags.{setOf}
-use Rattle.store.proofs.Flags.{flag-member, member-flag, set-kept, set-here, set-cases, set-longer, set-more}
-use Rattle.store.proofs.Known.{part-lower}
+use Rattle.flags.specs.Flags.{setOf}
+use Rattle.flags.proofs.Flags.{flag-member, member-flag, set-kept, set-here, set-cases, set-longer, set-more}
+use Rattle.format.proofs.Known.{part-lower}
 use Rattle.marking.specs.Passed.{Served, Passed}
 
 module _ (sc : Score) where

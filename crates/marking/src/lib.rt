@@ -4,8 +4,8 @@ ghost use Rattle.format.specs.Decode.{sizes, decode};
 ghost use Rattle.format.specs.Playable.{Playable};
 ghost use Rattle.marking.specs.Passed.{Passed};
 use format::Sizes;
-use store::Agents;
-use store::Tokens;
+use flags::Agents;
+use flags::Tokens;
 use tcc::Agent;
 
 // One pass over the agents, from the highest on, in which each live agent has its effect: a body or half has a lower

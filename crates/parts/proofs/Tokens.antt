@@ -18,8 +18,8 @@ use lib.Seq.{take-suc, take-all}
 use Rattle.laws.specs.Sets.{Same, keep}
 use Rattle.laws.proofs.Sets.{on-cons, on-append, keep-append}
 use Rattle.words.specs.Word.{kind}
-use Rattle.store.specs.Flags.{setOf, flagsOf}
-use Rattle.store.proofs.Flags.{set-kept, set-here, set-cases, setOf-none, flagsOf-length, flagsOf-member, member-flagsOf, flags-settled, flagsOf-same}
+use Rattle.flags.specs.Flags.{setOf, flagsOf}
+use Rattle.flags.proofs.Flags.{set-kept, set-here, set-cases, setOf-none, flagsOf-length, flagsOf-member, member-flagsOf, flags-settled, flagsOf-same}
 use Rattle.form.specs.Form.{tokenOf}
 use Rattle.parts.specs.Instants.{tokensOf}
 

@@ -6,7 +6,7 @@ ghost use lib.ListN.{length, getD};
 ghost use Rattle.tcc.specs.Instant.{answer};
 ghost use Rattle.format.specs.Decode.{sizes, decode};
 ghost use Rattle.format.specs.Playable.{Playable};
-ghost use Rattle.store.specs.Flags.{setOf};
+ghost use Rattle.flags.specs.Flags.{setOf};
 ghost use Rattle.lent.specs.Lengths.{noScratch};
 ghost use Rattle.lent.specs.States.{stateOf, instantNumber, LawfulState};
 ghost use Rattle.standing.specs.Standing.{stateIn};
@@ -19,7 +19,7 @@ ghost use Rattle.runlist.specs.Advance.{Advanced, RanTo};
 use form::Form;
 use format::Sizes;
 use standing::Standing;
-use store::Tokens;
+use flags::Tokens;
 
 // Why an instant of a run is not written.
 pub enum Stop {

@@ -18,8 +18,8 @@ use lib.Seq.{drop-cons, take-all, set-set, set-getD}
 use Rattle.laws.specs.Sets.{Same}
 use Rattle.tcc.specs.Score.{Score}
 use Rattle.tcc.specs.Instant.{State}
-use Rattle.store.specs.Flags.{setOf}
-use Rattle.store.proofs.Flags.{set-kept, set-here, set-cases}
+use Rattle.flags.specs.Flags.{setOf}
+use Rattle.flags.proofs.Flags.{set-kept, set-here, set-cases}
 use Rattle.settings.specs.Settings.{settings, counts}
 use Rattle.settings.proofs.Counting.{plus, counts-none, counts-map, counts-few, counted, counts-first, settings-over}
 use Rattle.settings.proofs.Binomial.{settings-long, choose-most}

@@ -5,13 +5,13 @@ ghost use lib.ListN.{length};
 ghost use Rattle.tcc.specs.Instant.{answer};
 ghost use Rattle.format.specs.Decode.{sizes, decode};
 ghost use Rattle.format.specs.Playable.{Playable};
-ghost use Rattle.store.specs.Flags.{setOf};
+ghost use Rattle.flags.specs.Flags.{setOf};
 ghost use Rattle.switches.specs.Switches.{mostSwitches};
 ghost use Rattle.settings.specs.Settings.{settings, counts};
 ghost use Rattle.settings.specs.Standing.{stateFrom};
 use format::Sizes;
-use store::Agents;
-use store::Tokens;
+use flags::Agents;
+use flags::Tokens;
 
 // How many settings end with each status: 0, 1 and 2.
 pub struct Counts {

@@ -12,8 +12,8 @@ use Rattle.laws.proofs.Booleans.{and-both, both-and}
 use Rattle.tcc.specs.Score.{Score}
 use Rattle.tcc.specs.Instant.{output}
 use Rattle.tcc.proofs.Output.{output-clash, output-has, output-from}
-use Rattle.store.specs.Flags.{setOf, flagsOf}
-use Rattle.store.proofs.Flags.{flag-member, member-flag, flags-settled}
+use Rattle.flags.specs.Flags.{setOf, flagsOf}
+use Rattle.flags.proofs.Flags.{flag-member, member-flag, flags-settled}
 use Rattle.engine.proofs.Outcomes.{flags-none}
 
 module _ (sc : Score) (status : ℕ) (no-clash : status ≡ 1 → ⊥) (store sent : List Bool)

@@ -7,7 +7,7 @@ use Prim.Native.Nat.{ℕ}
 use lib.Dec.{eqb}
 use Rattle.tcc.specs.Instant.{State, running, aborted}
 use Rattle.words.specs.Word.{wordAt}
-use Rattle.store.specs.Flags.{setOf, flagsOf}
+use Rattle.flags.specs.Flags.{setOf, flagsOf}
 use Rattle.lent.specs.States.{abortedWord, agentsIn}
 use Rattle.standing.specs.declared.Standing.{Standing}
 

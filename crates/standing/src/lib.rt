@@ -6,15 +6,15 @@ ghost use lib.ListN.{length, getD};
 ghost use Rattle.tcc.specs.Instant.{output, answer};
 ghost use Rattle.format.specs.Decode.{sizes, decode};
 ghost use Rattle.format.specs.Playable.{Playable};
-ghost use Rattle.store.specs.Flags.{setOf, flagsOf};
+ghost use Rattle.flags.specs.Flags.{setOf, flagsOf};
 ghost use Rattle.engine.specs.Outcome.{outcomeOf};
 ghost use Rattle.lent.specs.Lengths.{stateBytes, noScratch};
 ghost use Rattle.lent.specs.States.{numbered, LawfulState};
 ghost use Rattle.standing.specs.Standing.{stateIn, standingIn};
 use engine::Outcome;
 use format::Sizes;
-use store::Agents;
-use store::Tokens;
+use flags::Agents;
+use flags::Tokens;
 
 // Where a score stands between two instants.
 pub struct Standing {

@@ -1,5 +1,3 @@
-pub mod Flags
-pub mod Known
 pub mod Pass
 pub mod PassBound
 pub mod Passes

@@ -23,9 +23,9 @@ use Rattle.laws.proofs.Booleans.{true-is-false, by-test, either}
 use Rattle.laws.proofs.Sets.{Within, Among, on-cons, each-every}
 use Rattle.tcc.specs.Closure.{Rule}
 use Rattle.tcc.proofs.Closure.{Follows}
-use Rattle.store.specs.Flags.{setOf}
+use Rattle.flags.specs.Flags.{setOf}
 use Rattle.store.specs.PassBound.{applied, pass, after, Adds}
-use Rattle.store.proofs.Flags.{flag-member, member-flag, set-kept, set-here, set-cases, set-again, set-longer, set-more}
+use Rattle.flags.proofs.Flags.{flag-member, member-flag, set-kept, set-here, set-cases, set-again, set-longer, set-more}
 
 module _ (r : Rule ℕ) (store : List Bool) where
   applied-long : length (applied r store) ≡ length store

@@ -11,9 +11,9 @@ use native.Mathlib.Omega.{arith}
 use lib.ListN.{length, getD}
 use Rattle.laws.proofs.Booleans.{true-is-false}
 use Rattle.tcc.specs.Closure.{Rule}
-use Rattle.store.specs.Flags.{setOf}
+use Rattle.flags.specs.Flags.{setOf}
 use Rattle.store.specs.PassBound.{pass, after, Adds, PassCount, last, more, OneClosed, PassBound}
-use Rattle.store.proofs.Flags.{set-length-le}
+use Rattle.flags.proofs.Flags.{set-length-le}
 use Rattle.store.proofs.Pass.{pass-long, pass-kept, adds-longer}
 
 module _ (rules : List (Rule ℕ)) where

@@ -26,11 +26,11 @@ use Rattle.format.specs.Format.{isFact, ruleOf}
 use Rattle.format.specs.Decode.{decode}
 use Rattle.format.proofs.Decode.{rulesFrom, rule-member}
 use Rattle.format.proofs.Rule.{premises-fact, premises-plain}
-use Rattle.store.specs.Flags.{setOf}
+use Rattle.flags.specs.Flags.{setOf}
 use Rattle.store.specs.PassBound.{applied, pass}
 use Rattle.store.specs.Passes.{HasFacts, adds, Passed, Flooded}
 use Rattle.store.proofs.Pass.{applied-brings, applied-keeps, applied-already}
-use Rattle.store.proofs.Flags.{member-flag, set-kept, set-here, set-cases, set-longer}
+use Rattle.flags.proofs.Flags.{member-flag, set-kept, set-here, set-cases, set-longer}
 
 -- two premises
 both : (a b : Bool) → (a && (b && true)) ≡ (a && b)

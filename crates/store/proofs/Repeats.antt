@@ -20,10 +20,10 @@ use Rattle.words.specs.Word.{wordAt}
 use Rattle.words.proofs.Field.{field-below}
 use Rattle.format.specs.Decode.{decode}
 use Rattle.format.proofs.Decode.{on-rules}
-use Rattle.store.specs.Flags.{setOf}
+use Rattle.flags.specs.Flags.{setOf}
 use Rattle.store.specs.PassBound.{pass, after, Adds, PassCount, last, more}
 use Rattle.store.specs.Passes.{HasFacts, Passed, Repeated}
-use Rattle.store.proofs.Flags.{set-length-le}
+use Rattle.flags.proofs.Flags.{set-length-le}
 use Rattle.store.proofs.Pass.{Flagged, pass-long, pass-kept, pass-facts, pass-changes, adds-longer, after-next}
 
 pub conclusions-flagged : (s : List ℕ) (store : List Bool) → length store ≡ 256 → Within (Flagged store) (decode s .rules)

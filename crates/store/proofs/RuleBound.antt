@@ -14,10 +14,10 @@ use Rattle.laws.specs.Sets.{keep, every}
 use Rattle.laws.proofs.Booleans.{true-is-false, either}
 use Rattle.laws.proofs.Sets.{Within, keep-few, keep-more}
 use Rattle.tcc.specs.Closure.{Rule}
-use Rattle.store.specs.Flags.{setOf}
+use Rattle.flags.specs.Flags.{setOf}
 use Rattle.store.specs.PassBound.{applied, pass, Adds, PassCount, last, more}
 use Rattle.store.specs.RuleBound.{RuleBound}
-use Rattle.store.proofs.Flags.{flag-member, member-flag, set-cases}
+use Rattle.flags.proofs.Flags.{flag-member, member-flag, set-cases}
 use Rattle.store.proofs.Pass.{pass-kept}
 
 -- a rule with this conclusion

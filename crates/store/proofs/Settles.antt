@@ -20,10 +20,10 @@ use Rattle.tcc.specs.Lawful.{Lawful}
 use Rattle.tcc.specs.Store.{Derived, told, by-rule, by-clash, storeRules, closure}
 use Rattle.tcc.proofs.Closure.{Follows}
 use Rattle.tcc.proofs.Store.{store-follows, derived-least, closure-exact}
-use Rattle.store.specs.Flags.{setOf, flagsOf}
+use Rattle.flags.specs.Flags.{setOf, flagsOf}
 use Rattle.store.specs.PassBound.{applied, pass, after, PassCount, last, more}
 use Rattle.store.specs.Passes.{Repeated, Flooded}
-use Rattle.store.proofs.Flags.{flag-member, member-flag, set-kept, set-cases, flags-settled}
+use Rattle.flags.proofs.Flags.{flag-member, member-flag, set-kept, set-cases, flags-settled}
 use Rattle.store.proofs.Pass.{Flagged, pass-follows}
 
 pub record Drawn (sc : Score) (given : List ℕ) (store : List Bool) : Type 0 where

@@ -18,7 +18,7 @@ use lib.Seq.{getD-set-same, getD-set-other, ext-getD}
 use Rattle.laws.specs.Sets.{below, has}
 use Rattle.laws.proofs.Lists.{map-at, map-entries}
 use Rattle.laws.proofs.Sets.{below-length, below-at}
-use Rattle.store.specs.Flags.{flagsOf}
+use Rattle.flags.specs.Flags.{flagsOf}
 use Rattle.store.specs.PassBound.{applied, pass, PassCount, last, more}
 use Rattle.store.specs.WorstOrder.{link, links, WorstOrder}
 use Rattle.store.proofs.Pass.{applied-brings, applied-keeps, applied-already}

@@ -1,4 +1,3 @@
-pub mod Flags
 pub mod PassBound
 pub mod Passes
 pub mod RuleBound

@@ -18,7 +18,7 @@ use Rattle.laws.specs.Sets.{every}
 use Rattle.tcc.specs.Closure.{Rule}
 use Rattle.tcc.specs.Score.{Score}
 use Rattle.tcc.specs.Store.{closure}
-use Rattle.store.specs.Flags.{setOf, flagsOf}
+use Rattle.flags.specs.Flags.{setOf, flagsOf}
 
 abbrev pub applied : Rule ℕ → List Bool → List Bool
 applied r store = cond (every (λ p. getD store p false) (r .premises)) (set store (r .conclusion) true) store

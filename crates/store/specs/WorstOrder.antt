@@ -9,7 +9,7 @@ use Prim.Native.Nat.{ℕ, zero, suc}
 use lib.Dec.{eqb}
 use Rattle.tcc.specs.Closure.{Rule}
 use Rattle.tcc.specs.Score.{Score}
-use Rattle.store.specs.Flags.{flagsOf}
+use Rattle.flags.specs.Flags.{flagsOf}
 use Rattle.store.specs.PassBound.{ClosedFrom}
 
 abbrev pub link : ℕ → ℕ → Rule ℕ

@@ -6,12 +6,8 @@ ghost use Rattle.format.specs.Decode.{sizes, decode};
 ghost use Rattle.format.specs.Playable.{Playable};
 ghost use Rattle.store.specs.PassBound.{ClosedFrom};
 ghost use Rattle.store.specs.Passes.{HasFacts, adds, Passed, Repeated, Flooded};
+use flags::Tokens;
 use format::Sizes;
-
-// A flag for each token, and for each agent.
-pub type Tokens = [bool; 256];
-
-pub type Agents = [bool; 1024];
 
 // Closes a store under the rules and the clash; returns how many passes over the rules there were.
 pub fn closed(s: &[u8], head: Sizes, store: &mut Tokens) -> u16

@@ -10,7 +10,7 @@ use Rattle.tcc.specs.Instant.{output}
 use Rattle.tcc.proofs.Output.{output-from}
 use Rattle.format.specs.Decode.{decode}
 use Rattle.format.proofs.Decode.{decode-tokens}
-use Rattle.store.specs.Flags.{setOf}
+use Rattle.flags.specs.Flags.{setOf}
 use Rattle.bits.specs.Bits.{bytesOf}
 use Rattle.lent.specs.States.{agentWords}
 use Rattle.maps.specs.Maps.{mapOf}

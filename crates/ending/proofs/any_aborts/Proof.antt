@@ -9,9 +9,9 @@ use Rattle.laws.proofs.Sets.{some-any}
 use Rattle.tcc.specs.Score.{agentAt}
 use Rattle.tcc.specs.Instant.{isAbort}
 use Rattle.format.specs.Decode.{decode}
-use Rattle.store.specs.Flags.{setOf}
-use Rattle.store.proofs.Flags.{flag-member, member-flag}
-use Rattle.store.proofs.Known.{agents-all, agents-few}
+use Rattle.flags.specs.Flags.{setOf}
+use Rattle.flags.proofs.Flags.{flag-member, member-flag}
+use Rattle.format.proofs.Known.{agents-all, agents-few}
 use Rattle.ending.proofs.Free.{Free, free-none, free-more, free-all}
 use Rattle.ending.proofs.any_aborts.Statement.{statement}
 use Rattle.ending.proofs.any_aborts.Tie as tie

@@ -5,8 +5,8 @@ use native.Mathlib.Omega.{arith}
 use lib.ListN.{length, getD, length-replicate}
 use Rattle.laws.proofs.Booleans.{true-is-false}
 use Rattle.format.specs.Decode.{decode}
-use Rattle.store.specs.Flags.{setOf}
-use Rattle.store.proofs.Known.{agents-all, agents-few}
+use Rattle.flags.specs.Flags.{setOf}
+use Rattle.format.proofs.Known.{agents-all, agents-few}
 use Rattle.lent.specs.Lengths.{scratchBytes}
 use Rattle.ending.specs.Ended.{Read}
 use Rattle.ending.proofs.Reading.{read-none, read-free, read-awake}

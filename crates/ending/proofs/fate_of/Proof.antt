@@ -7,8 +7,9 @@ use native.Mathlib.Omega.{arith}
 use lib.ListN.{getD}
 use Rattle.tcc.specs.Instant.{leaves}
 use Rattle.tcc.specs.declared.Agent.{Agent}
-use Rattle.store.specs.Flags.{setOf}
-use Rattle.store.proofs.Known.{agents-few, token-few, part-lower, flag-has}
+use Rattle.flags.specs.Flags.{setOf}
+use Rattle.flags.proofs.Flags.{flag-has}
+use Rattle.format.proofs.Known.{agents-few, token-few, part-lower}
 use Rattle.ending.specs.declared.Fate.{Fate}
 use Rattle.ending.specs.declared.Fate.the-variants.{Reduced, Stays}
 use Rattle.ending.specs.Ended.{fateOf, flagged}

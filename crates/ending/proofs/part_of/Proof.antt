@@ -7,9 +7,9 @@ use lib.ListN.{length}
 use Rattle.laws.proofs.Booleans.{true-is-false}
 use Rattle.tcc.specs.Score.{agentAt}
 use Rattle.format.specs.Decode.{decode}
-use Rattle.store.specs.Flags.{setOf}
-use Rattle.store.proofs.Flags.{flag-member, member-flag}
-use Rattle.store.proofs.Known.{agents-all, agents-few}
+use Rattle.flags.specs.Flags.{setOf}
+use Rattle.flags.proofs.Flags.{flag-member, member-flag}
+use Rattle.format.proofs.Known.{agents-all, agents-few}
 use Rattle.ending.specs.declared.Fate.the-variants.{Aborts}
 use Rattle.ending.proofs.Fates.{fate-says}
 use Rattle.ending.proofs.Reading.{abort-found}

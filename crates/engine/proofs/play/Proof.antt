@@ -7,8 +7,8 @@ use native.Mathlib.Omega.{arith}
 use lib.ListN.{length}
 use Rattle.tcc.specs.Instant.{instant}
 use Rattle.format.specs.Decode.{decode}
-use Rattle.store.specs.Flags.{setOf}
-use Rattle.store.proofs.Known.{agents-all, agents-few}
+use Rattle.flags.specs.Flags.{setOf}
+use Rattle.format.proofs.Known.{agents-all, agents-few}
 use Rattle.engine.specs.ScratchCount.{Counted}
 use Rattle.engine.proofs.ScratchCount.{scratch-count}
 use Rattle.engine.proofs.Outcomes.{aborted-outcome, quiet-outcome}

@@ -9,9 +9,9 @@ use Rattle.tcc.specs.Score.{Score}
 use Rattle.tcc.specs.Store.{closure}
 use Rattle.tcc.specs.FixedPoint.{Marked, Sound}
 use Rattle.format.specs.Decode.{decode}
-use Rattle.store.specs.Flags.{setOf, flagsOf}
+use Rattle.flags.specs.Flags.{setOf, flagsOf}
 use Rattle.store.specs.PassBound.{ClosedFrom}
-use Rattle.store.proofs.Flags.{member-within, set-length-le, set-more, flagsOf-length}
+use Rattle.flags.proofs.Flags.{member-within, set-length-le, set-more, flagsOf-length}
 use Rattle.engine.specs.Marks.{Shut}
 use Rattle.engine.proofs.Closing.{closed-shut, closed-above}
 use Rattle.engine.proofs.Settling.{Settling, settling-none, settling-more, starts-sound, settled}

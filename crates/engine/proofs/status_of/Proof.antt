@@ -5,7 +5,7 @@ use borrow.Author.Needs.{needs}
 use lib.ListN.{getD}
 use Rattle.tcc.specs.Instant.{instant}
 use Rattle.format.specs.Decode.{decode}
-use Rattle.store.specs.Flags.{setOf}
+use Rattle.flags.specs.Flags.{setOf}
 use Rattle.engine.proofs.Outcomes.{aborted-status, quiet-status}
 use Rattle.engine.proofs.status_of.Statement.{statement}
 use Rattle.engine.proofs.status_of.Tie as tie

@@ -5,7 +5,7 @@ use lib.Dec.{leb}
 use lib.ListN.{length}
 use Rattle.laws.specs.Sets.{any}
 use Rattle.scorefile.proofs.Stages.{by-head}
-use Rattle.store.specs.Flags.{setOf}
+use Rattle.flags.specs.Flags.{setOf}
 use Rattle.standing.specs.Standing.{stateIn}
 use Rattle.history.proofs.FromStanding.{stepped}
 use Rattle.history.proofs.step_from.Statement.{statement}

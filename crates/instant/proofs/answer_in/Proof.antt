@@ -4,7 +4,7 @@ use borrow.Author.Needs.{needs}
 use lib.ListN.{length}
 use Rattle.tcc.specs.Instant.{answer}
 use Rattle.format.specs.Decode.{decode}
-use Rattle.store.specs.Flags.{setOf}
+use Rattle.flags.specs.Flags.{setOf}
 use Rattle.engine.specs.Outcome.{outcomeOf}
 use Rattle.standing.specs.Standing.{stateIn}
 use Rattle.standing.proofs.Standings.{standing-state}

@@ -17,7 +17,7 @@ use Rattle.verdicts.specs.Verdicts.{numberOf}
 use Rattle.scorefile.specs.Check.{verdict}
 use Rattle.scorefile.proofs.Stages.{head-read, by-head}
 use Rattle.scorefile.proofs.Stages as stages
-use Rattle.store.specs.Flags.{setOf}
+use Rattle.flags.specs.Flags.{setOf}
 use Rattle.engine.specs.Outcome.{outcomeOf}
 use Rattle.bits.proofs.Filled.{none-from, from-none}
 use Rattle.lent.specs.States.{stateFault, stateOf, LawfulState}

@@ -6,7 +6,7 @@ use Prim.Native.Nat.{_+_, _*_, _-_, _^_, _≤_, _<_}
 use borrow.Author.Needs.{needs}
 use native.Mathlib.Omega.{arith}
 use lib.ListN.{length, take, drop, length-map}
-use Rattle.store.specs.Flags.{setOf}
+use Rattle.flags.specs.Flags.{setOf}
 use Rattle.bits.specs.Bits.{bytesOf}
 use Rattle.journal.proofs.Kept.{kept, kept-count, kept-all, kept-room}
 use Rattle.journal.proofs.Put.{Put, put-none, listed, listed-more, listed-same}

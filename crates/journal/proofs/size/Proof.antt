@@ -1,7 +1,7 @@
 -- `journal::size`: one word, and one for each token.
 use borrow.Author.Needs.{needs}
 use native.Mathlib.Omega.{arith}
-use Rattle.store.specs.Flags.{setOf}
+use Rattle.flags.specs.Flags.{setOf}
 use Rattle.journal.proofs.Put.{instant-length}
 use Rattle.journal.proofs.size.Statement.{statement}
 use Rattle.journal.proofs.size.Tie as tie

@@ -1,7 +1,7 @@
 -- `journal::write`: the instant's word, the words of its inputs and those of its outputs, one after the other.
 use borrow.Author.Needs.{needs}
 use native.Mathlib.Omega.{arith}
-use Rattle.store.specs.Flags.{setOf}
+use Rattle.flags.specs.Flags.{setOf}
 use Rattle.journal.proofs.Put.{instant-length, instant-put}
 use Rattle.journal.proofs.write.Statement.{statement}
 use Rattle.journal.proofs.write.Tie as tie

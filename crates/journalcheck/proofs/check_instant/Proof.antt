@@ -7,7 +7,7 @@ use lib.ListN.{length, getD}
 use Rattle.words.specs.Word.{words}
 use Rattle.format.specs.Decode.{sizes}
 use Rattle.format.proofs.Decode.{sizes-few}
-use Rattle.store.specs.Flags.{setOf}
+use Rattle.flags.specs.Flags.{setOf}
 use Rattle.standing.specs.Standing.{stateIn}
 use Rattle.history.proofs.FromStanding.{told-set, status-few}
 use Rattle.history.proofs.FromStanding as from

@@ -6,9 +6,9 @@ use native.Mathlib.Omega.{arith}
 use borrow.Author.Tests.{not-true, not-false}
 use Rattle.laws.proofs.Booleans.{true-is-false}
 use Rattle.format.specs.Decode.{decode}
-use Rattle.store.specs.Flags.{setOf}
-use Rattle.store.proofs.Flags.{member-flag}
-use Rattle.store.proofs.Known.{agents-all, agents-few, token-few, procedure-known}
+use Rattle.flags.specs.Flags.{setOf}
+use Rattle.flags.proofs.Flags.{member-flag}
+use Rattle.format.proofs.Known.{agents-all, agents-few, token-few, procedure-known}
 use Rattle.marking.specs.Passed.{Served, Passed}
 use Rattle.marking.proofs.Idle.{idle}
 use Rattle.marking.proofs.Passing.{passed-none, passed-by, Coming, part-few, served-here, tells-new, tells-held, splits, answers, waits, root-few, calls-new, calls-live}

@@ -7,7 +7,7 @@ use native.Mathlib.Omega.{arith}
 use lib.ListN.{length, take}
 use Rattle.words.specs.Word.{words}
 use Rattle.words.proofs.Field.{field-below}
-use Rattle.store.specs.Flags.{flagsOf}
+use Rattle.flags.specs.Flags.{flagsOf}
 use Rattle.parts.specs.Instants.{tokensOf}
 use Rattle.parts.proofs.Tokens.{tokens-none, tokens-more, tokens-other, tokens-all}
 use Rattle.parts.proofs.tokens_in.Statement.{statement}

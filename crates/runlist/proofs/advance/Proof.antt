@@ -6,7 +6,7 @@ use borrow.Author.Needs.{needs}
 use native.Mathlib.Omega.{arith}
 use lib.ListN.{length, getD}
 use Rattle.format.proofs.Decode.{decode-tokens}
-use Rattle.store.specs.Flags.{setOf}
+use Rattle.flags.specs.Flags.{setOf}
 use Rattle.standing.specs.Standing.{stateIn}
 use Rattle.history.proofs.FromStanding.{status-few, outputs-known}
 use Rattle.runlist.specs.Run.{goesOn}

@@ -3,7 +3,7 @@ use mathlib.Core.Path.{sym, ap, _∙_}
 use borrow.Author.Needs.{needs}
 use Rattle.tcc.specs.Instant.{answer}
 use Rattle.format.specs.Decode.{decode}
-use Rattle.store.specs.Flags.{setOf}
+use Rattle.flags.specs.Flags.{setOf}
 use Rattle.settings.specs.Standing.{stateFrom}
 use Rattle.settings.proofs.status_in.Statement.{statement}
 use Rattle.settings.proofs.status_in.Tie as tie

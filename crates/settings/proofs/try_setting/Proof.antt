@@ -10,7 +10,7 @@ use lib.ListN.{length}
 use Rattle.tcc.specs.Score.{Score}
 use Rattle.tcc.specs.Instant.{State, answer}
 use Rattle.format.specs.Decode.{decode}
-use Rattle.store.specs.Flags.{setOf}
+use Rattle.flags.specs.Flags.{setOf}
 use Rattle.settings.specs.Settings.{counts}
 use Rattle.settings.specs.Standing.{stateFrom}
 use Rattle.settings.proofs.Counting.{three}

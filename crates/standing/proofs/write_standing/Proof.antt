@@ -7,8 +7,8 @@ use borrow.Author.Needs.{needs}
 use native.Mathlib.Omega.{arith}
 use lib.ListN.{getD, replicate}
 use Rattle.tcc.specs.Instant.{running, aborted}
-use Rattle.store.specs.Flags.{setOf}
-use Rattle.store.proofs.Flags.{flag-member, setOf-none}
+use Rattle.flags.specs.Flags.{setOf}
+use Rattle.flags.proofs.Flags.{flag-member, setOf-none}
 use Rattle.engine.proofs.Outcomes.{flags-none}
 use Rattle.bits.specs.Bits.{bytesOf}
 use Rattle.lent.specs.States.{runningWord, abortedWord, agentWords, numbered, LawfulState}

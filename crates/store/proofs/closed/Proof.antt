@@ -6,7 +6,7 @@ use native.Mathlib.Omega.{arith}
 use Rattle.tcc.proofs.Closure.{Follows}
 use Rattle.format.specs.Decode.{decode}
 use Rattle.format.proofs.Decode.{decode-tokens, sizes-few}
-use Rattle.store.specs.Flags.{setOf}
+use Rattle.flags.specs.Flags.{setOf}
 use Rattle.store.specs.Passes.{Flooded}
 use Rattle.store.proofs.Repeats.{conclusions-flagged}
 use Rattle.store.proofs.Settles.{Drawn, drawn-repeated, follows-repeated, closed-calm, closed-clash}

@@ -10,7 +10,7 @@ use Rattle.words.specs.Word.{field, words}
 use Rattle.words.proofs.Field.{field-below}
 use Rattle.format.proofs.Decode.{rulesFrom}
 use Rattle.store.specs.Passes.{adds}
-use Rattle.store.proofs.Flags.{set-length-le}
+use Rattle.flags.proofs.Flags.{set-length-le}
 use Rattle.store.proofs.Passes.{Passing, passing-none, passing-skipped, passing-added, passing-all}
 use Rattle.store.proofs.rule_pass.Statement.{statement}
 use Rattle.store.proofs.rule_pass.Tie as tie

@@ -5,25 +5,18 @@
 --     token-few          a token that an agent names has a flag
 --     procedure-known    a procedure that an agent calls is one of the score's
 --     part-lower         a body or half has a lower number than its agent
---     flag-has           a flag says whether its number is in the set
-use mathlib.Core.Path.{_≡_, refl, sym, ap, subst⁻¹, _∙_}
-use mathlib.Core.Bool.{Bool, true, false}
+use mathlib.Core.Path.{_≡_, sym, ap, subst⁻¹, _∙_}
 use mathlib.Core.List.{List, List·Memᴰ}
 use Prim.Native.Nat.{ℕ, _<_, _≤_}
 use native.Mathlib.Omega.{arith}
-use lib.ListN.{length, getD}
-use Rattle.laws.specs.Sets.{has}
-use Rattle.laws.proofs.Booleans.{true-is-false}
-use Rattle.laws.proofs.Sets.{member-has, not-has}
+use lib.ListN.{length}
 use Rattle.tcc.specs.Score.{Score, agentAt, tokensOf, partsOf, proceduresOf}
 use Rattle.tcc.specs.Lawful.{Lawful}
 use Rattle.tcc.specs.declared.Agent.{Agent}
 use Rattle.format.specs.Decode.{sizes, decode}
 use Rattle.format.specs.declared.Sizes.{Sizes}
 use Rattle.format.specs.Playable.{Playable}
 use Rattle.format.proofs.Decode.{decode-agents, decode-roots}
-use Rattle.store.specs.Flags.{setOf}
-use Rattle.store.proofs.Flags.{flag-member, member-flag}
 
 module _ {s : List ℕ} (p : Playable s) where
   module _ {head : Sizes} (says : head ≡ sizes s) where
@@ -48,10 +41,3 @@ module _ {s : List ℕ} (p : Playable s) where
 
 pub part-lower : {sc : Score} → Lawful sc → (i b : ℕ) {a : Agent} → agentAt sc i ≡ a → List·Memᴰ b (partsOf a) → b < i
 part-lower {sc} lawful i b e m = lawful .parts-lower i b (subst⁻¹ (λ x. List·Memᴰ b (partsOf x)) e m)
-
-pub flag-has : (flags : List Bool) (i : ℕ) → getD flags i false ≡ has i (setOf flags)
-flag-has flags i = go (getD flags i false) refl
-  where
-    go : (b : Bool) → getD flags i false ≡ b → getD flags i false ≡ has i (setOf flags)
-    go true e = e ∙ sym (member-has (flag-member flags e))
-    go false e = e ∙ sym (not-has (λ m. true-is-false (member-flag flags m) e))

@@ -1,5 +1,6 @@
 -- Laws of sets as flags.
 --     flag-member, member-flag   the members of a set are the numbers flagged
+--     flag-has           a flag says whether its number is in the set
 --     member-within      which are below the number of flags
 --     set-kept           a flag set keeps the members
 --     set-here           brings its own number
@@ -27,7 +28,7 @@ use Rattle.laws.specs.Sets.{Same, below, keep, has}
 use Rattle.laws.proofs.Lists.{map-at}
 use Rattle.laws.proofs.Booleans.{true-is-false}
 use Rattle.laws.proofs.Sets.{Among, on-keep, keep-kept, keep-agrees, below-lt, lt-below, has-member, member-has, not-has, keep-append, keep-none, keep-few, keep-more, below-length, below-at}
-use Rattle.store.specs.Flags.{setOf, flagsOf}
+use Rattle.flags.specs.Flags.{setOf, flagsOf}
 
 -- a test that one number more passes
 module _ (f g : ℕ → Bool) (i : ℕ) (others : (j : ℕ) → (j ≡ i → ⊥) → f j ≡ g j) (out : f i ≡ false) (in′ : g i ≡ true) where
@@ -134,3 +135,10 @@ module _ (n : ℕ) (l : List ℕ) where
 
 pub flagsOf-same : (n : ℕ) {l k : List ℕ} → Same l k → flagsOf n l ≡ flagsOf n k
 flagsOf-same n {l} {k} same = flags-settled n k (flagsOf n l) (flagsOf-length n l) (λ i h. (λ m. same i .0 (flagsOf-member n l m), λ m. member-flagsOf n l h (same i .1 m)))
+
+pub flag-has : (flags : List Bool) (i : ℕ) → getD flags i false ≡ has i (setOf flags)
+flag-has flags i = go (getD flags i false) refl
+  where
+    go : (b : Bool) → getD flags i false ≡ b → getD flags i false ≡ has i (setOf flags)
+    go true e = e ∙ sym (member-has (flag-member flags e))
+    go false e = e ∙ sym (not-has (λ m. true-is-false (member-flag flags m) e))
