@@ -9,9 +9,9 @@ ghost use Rattle.format.specs.Playable.{Playable};
 ghost use Rattle.flags.specs.Flags.{setOf};
 ghost use Rattle.lent.specs.Lengths.{noScratch};
 ghost use Rattle.ending.specs.Ended.{fateOf, flagged, Read, Parted, Ended};
-use format::Sizes;
 use flags::Agents;
 use flags::Tokens;
+use format::Sizes;
 use tcc::Agent;
 
 // What an instant comes to: whether it aborts; if not, which agents are awake next.

@@ -7,9 +7,9 @@ ghost use Rattle.flags.specs.Flags.{setOf};
 ghost use Rattle.lent.specs.Lengths.{noScratch};
 ghost use Rattle.engine.specs.Marks.{Fixed};
 ghost use Rattle.engine.specs.Outcome.{outcomeOf};
-use format::Sizes;
 use flags::Agents;
 use flags::Tokens;
+use format::Sizes;
 
 // What the engine returns of an instant.
 pub struct Outcome {

@@ -10,9 +10,9 @@ ghost use Rattle.lent.specs.Lengths.{stateBytes, noScratch};
 ghost use Rattle.lent.specs.States.{stateOf, asBytes, startBytes, LawfulState};
 ghost use Rattle.standing.specs.Standing.{stateIn};
 ghost use Rattle.history.specs.Stepped.{Stepped};
+use flags::Tokens;
 use format::Sizes;
 use standing::Standing;
-use flags::Tokens;
 use verdicts::Verdict;
 
 // What a run or a journal check answers.

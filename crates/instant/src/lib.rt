@@ -9,8 +9,8 @@ ghost use Rattle.lent.specs.Lengths.{stateBytes, noScratch};
 ghost use Rattle.lent.specs.States.{stateOf};
 ghost use Rattle.instant.specs.InstantCall.{lent, InstantCall};
 use engine::Outcome;
-use format::Sizes;
 use flags::Tokens;
+use format::Sizes;
 use verdicts::Verdict;
 
 // What an instant call answers.

@@ -3,9 +3,9 @@ ghost use lib.ListN.{length};
 ghost use Rattle.format.specs.Decode.{sizes, decode};
 ghost use Rattle.format.specs.Playable.{Playable};
 ghost use Rattle.marking.specs.Passed.{Passed};
-use format::Sizes;
 use flags::Agents;
 use flags::Tokens;
+use format::Sizes;
 use tcc::Agent;
 
 // One pass over the agents, from the highest on, in which each live agent has its effect: a body or half has a lower

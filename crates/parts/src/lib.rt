@@ -4,8 +4,8 @@ ghost use Rattle.words.specs.Word.{words};
 ghost use Rattle.flags.specs.Flags.{flagsOf};
 ghost use Rattle.parts.specs.Instants.{tokensOf};
 ghost use Rattle.parts.specs.Parts.{span, partFrom, partAt};
-use form::Form;
 use flags::Tokens;
+use form::Form;
 
 // The part of a journal's bytes from a position to the next instant word or the end; empty where the form is against it.
 pub fn part(bytes: &[u8], form: Form, at: usize) -> &[u8]

@@ -16,10 +16,10 @@ ghost use Rattle.parts.specs.Instants.{inputLists};
 ghost use Rattle.journal.specs.History.{entry};
 ghost use Rattle.runlist.specs.Run.{stopBy, goesOn, runFrom};
 ghost use Rattle.runlist.specs.Advance.{Advanced, RanTo};
+use flags::Tokens;
 use form::Form;
 use format::Sizes;
 use standing::Standing;
-use flags::Tokens;
 
 // Why an instant of a run is not written.
 pub enum Stop {

@@ -9,9 +9,9 @@ ghost use Rattle.flags.specs.Flags.{setOf};
 ghost use Rattle.switches.specs.Switches.{mostSwitches};
 ghost use Rattle.settings.specs.Settings.{settings, counts};
 ghost use Rattle.settings.specs.Standing.{stateFrom};
-use format::Sizes;
 use flags::Agents;
 use flags::Tokens;
+use format::Sizes;
 
 // How many settings end with each status: 0, 1 and 2.
 pub struct Counts {

@@ -12,9 +12,9 @@ ghost use Rattle.lent.specs.Lengths.{stateBytes, noScratch};
 ghost use Rattle.lent.specs.States.{numbered, LawfulState};
 ghost use Rattle.standing.specs.Standing.{stateIn, standingIn};
 use engine::Outcome;
-use format::Sizes;
 use flags::Agents;
 use flags::Tokens;
+use format::Sizes;
 
 // Where a score stands between two instants.
 pub struct Standing {

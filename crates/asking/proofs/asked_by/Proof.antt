@@ -17,6 +17,10 @@ use Rattle.asking.proofs.Members.{pair-first, pair-added}
 use Rattle.asking.proofs.asked_by.Statement.{statement}
 use Rattle.asking.proofs.asked_by.Tie as tie
 
+-- Stations of the walk, each from a later place.
+abbrev to-row-of : tie.After-known-told → tie.After-row-of
+to-row-of c = c .before .before .before
+
 row-of-requires : tie.Need-row-of-requires
 row-of-requires c κs = search needs
 
@@ -66,7 +70,7 @@ enum-known-agent c = search needs
 named : (c : tie.After-agent) → c .agent .given .0 .0 < 256
 named c =
     let is = c .before .before .before .written .given .1 ∙ ap Plain (c .agent .given .1) in
-    c .before .before .before .before .before .before .pre (c .agent .given .0 .0) (subst⁻¹ (λ w. List·Memᴰ (c .agent .given .0 .0) (tokensNamed w)) is (List·Memᴰ·head refl))
+    to-row-of (c .before .before) .before .pre (c .agent .given .0 .0) (subst⁻¹ (λ w. List·Memᴰ (c .agent .given .0 .0) (tokensNamed w)) is (List·Memᴰ·head refl))
 
 with-token-requires : tie.Need-with-token-requires
 with-token-requires c κs = omega (arith, named (c .before))
@@ -78,29 +82,29 @@ enum-told-8 : tie.Need-enum-told-8
 enum-told-8 c = search needs
 
 returns-2 : tie.Need-returns-2
-returns-2 c = told (c .before .before .before) (c .enum-told2 .given .1) (nothing (c .before .before .before .before .before))
+returns-2 c = told (c .before .before .before) (c .enum-told2 .given .1) (nothing (to-row-of (c .before .before)))
 
 returns-3 : tie.Need-returns-3
-returns-3 c = told (c .before .before .before) (c .enum-told3 .given .1) (nothing (c .before .before .before .before .before))
+returns-3 c = told (c .before .before .before) (c .enum-told3 .given .1) (nothing (to-row-of (c .before .before)))
 
 returns-4 : tie.Need-returns-4
-returns-4 c = told (c .before .before .before) (c .enum-told4 .given .1) (nothing (c .before .before .before .before .before))
+returns-4 c = told (c .before .before .before) (c .enum-told4 .given .1) (nothing (to-row-of (c .before .before)))
 
 returns-5 : tie.Need-returns-5
-returns-5 c = told (c .before .before .before) (c .enum-told5 .given .1) (nothing (c .before .before .before .before .before))
+returns-5 c = told (c .before .before .before) (c .enum-told5 .given .1) (nothing (to-row-of (c .before .before)))
 
 returns-6 : tie.Need-returns-6
-returns-6 c = told (c .before .before .before) (c .enum-told6 .given .1) (nothing (c .before .before .before .before .before))
+returns-6 c = told (c .before .before .before) (c .enum-told6 .given .1) (nothing (to-row-of (c .before .before)))
 
 returns-7 : tie.Need-returns-7
 returns-7 c =
-    let row = rowValue (c .before .before .before .before .before .before .before .args .row) in
+    let row = rowValue (to-row-of (c .before .before .before) .before .args .row) in
     let under : rowValue (c .renumbered .result) ≡ pair 0 (setIn row) = c .renumbered .ensures in
     told (c .before .before .before .before) (c .before .enum-told7 .given .1) (under ∙ pair-first (setIn row))
 
 returns-8 : tie.Need-returns-8
 returns-8 c =
-    let row = rowValue (c .before .before .before .before .before .before .before .before .before .args .row) in
+    let row = rowValue (to-row-of (c .before .before .before .before .before) .before .args .row) in
     let a = c .before .before .before in
     let token = a .agent .given .0 .0 in
     let own : rowValue (c .before .with-token .result) ≡ pair (numberIn row) (with token (setIn row)) = c .before .with-token .ensures in
@@ -108,7 +112,7 @@ returns-8 c =
     told (a .before .before .before) (a .agent .given .1) (under ∙ ap (λ v. pair 0 (setIn v)) own ∙ pair-added row token (named a))
 
 returns-9 : tie.Need-returns-9
-returns-9 c = told (c .before .before .before) (c .enum-told8 .given .1) (nothing (c .before .before .before .before .before))
+returns-9 c = told (c .before .before .before) (c .enum-told8 .given .1) (nothing (to-row-of (c .before .before)))
 
 pub asked-by-spec : {M : Type 1} → statement M
 asked-by-spec =

@@ -19,25 +19,35 @@ use Rattle.standing.proofs.Inside.{flags-back, flags-known}
 use Rattle.buffers.proofs.hand_over.Statement.{statement}
 use Rattle.buffers.proofs.hand_over.Tie as tie
 
+-- Stations of the walk, each from a later place.
+abbrev to-start : tie.After-write-state-arg → tie.Start
+to-start c = c .before .before .before .before .before .before .before .before
+
+abbrev to-write-state : tie.After-write-map → tie.After-write-state
+to-write-state c = c .before .before .before .before
+
+abbrev to-write-map : tie.After-slice-known6 → tie.After-write-map
+to-write-map c = c .before .before .before .before .before .before .before
+
 first-word-requires : tie.Need-first-word-requires
 first-word-requires c κs = search needs
 
 write-state-requires : tie.Need-write-state-requires
 write-state-requires c κs =
-    let b = c .before .before .before .before .before .before .before .before in
+    let b = to-start c in
     (b .pre .1 .1 .0 .state-bytes, b .pre .1 .1 .1 .agents)
 
 write-map-requires : tie.Need-write-map-requires
 write-map-requires c κs =
-    let b = c .before .before .before .before .before .before .before .before .before .before .before .before in
+    let b = to-start (c .before .before .before .before) in
     (b .pre .1 .1 .0 .store-bytes, b .pre .1 .1 .1 .tokens)
 
 sent-requires : tie.Need-sent-requires
-sent-requires c κs = c .before .before .before .before .before .before .before .before .before .before .before .before .before .before .before .pre .1 .0
+sent-requires c κs = to-start (to-write-state (c .before .before) .before) .pre .1 .0
 
 write-map-requires-2 : tie.Need-write-map-requires-2
 write-map-requires-2 c κs =
-    let b = c .before .before .before .before .before .before .before .before .before .before .before .before .before .before .before .before .before in
+    let b = to-start (to-write-state (c .before .before .before .before) .before) in
     let s = b .args .score .now in
     let l = b .pre .1 .0 .lawful in
     let e = ap (λ h. h .tokens) (b .pre .0) in (
@@ -58,14 +68,16 @@ same-length-3 c = search needs
 
 returns : tie.Need-returns
 returns c =
-    let b = c .before .before .before .before .before .before .before .before .before .before .before .before .before .before .before .before .before .before .before .before in
+    let at-write-map = to-write-map c in
+    let at-write-state = to-write-state at-write-map in
+    let b = to-start (at-write-state .before) in
     let sc = decode (b .args .score .now) in
     let l = b .pre .1 .0 .lawful in
     let out = output sc (b .args .outcome .status) (setOf (b .args .outcome .store)) in
     let within : (t : ℕ) → List·Memᴰ t out → t < 256 = λ t m. omega (arith, output-from sc (b .args .outcome .status) (setOf (b .args .outcome .store)) t m .high, l .ports-known, l .most-tokens) in
     record {
-      state-is = c .before .before .before .before .before .before .before .before .before .before .before .write-state .ensures ∙ ap (λ w. bytesOf ((w ∷ agentWords (setOf (b .args .outcome .awake))) ++ b .args .number ∷ [])) (c .before .before .before .before .before .before .before .before .before .before .before .before .before .first-word .ensures);
-      store-is = c .before .before .before .before .before .before .before .write-map .ensures;
+      state-is = at-write-state .write-state .ensures ∙ ap (λ w. bytesOf ((w ∷ agentWords (setOf (b .args .outcome .awake))) ++ b .args .number ∷ [])) (at-write-state .before .before .first-word .ensures);
+      store-is = at-write-map .write-map .ensures;
       output-is = c .before .before .write-map2 .ensures ∙ ap (λ r. mapOf (setOf r)) (c .before .before .before .before .sent .ensures) ∙ mapOf-same (flags-back 256 out within);
     }
 

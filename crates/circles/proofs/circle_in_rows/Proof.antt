@@ -21,6 +21,10 @@ Inv-loop s agents procedures sets rows p₀ p = (p ≤ procedures) × (procedure
 abbrev μ-loop : tie.MeasureT-loop
 μ-loop s agents procedures sets rows p₀ p = procedures - p
 
+-- Stations of the walk, each from a later place.
+abbrev to-start : tie.After-rows2 Inv-loop μ-loop → tie.Start Inv-loop μ-loop
+to-start c = c .before .before .before .before .before
+
 mark-direct-requires : tie.Need-mark-direct-requires Inv-loop μ-loop
 mark-direct-requires c κs =
     let b = c .before .before .before in
@@ -28,12 +32,12 @@ mark-direct-requires c κs =
 
 close-requires : tie.Need-close-requires Inv-loop μ-loop
 close-requires c κs =
-    let b = c .before .before .before .before .before in
+    let b = to-start c in
     (omega (arith, sizes-few (b .args .s .now), b .pre .1 .0), c .before .mark-direct .ensures .long)
 
 loop-holds : tie.Need-loop-holds Inv-loop μ-loop
 loop-holds c =
-    let b = c .before .before .before .before .before .before in
+    let b = to-start (c .before) in
     let s = b .args .s .now in
     let n : length (decode s .roots) ≡ b .args .procedures = decode-roots s (b .pre .1 .1 .0 .enough) ∙ sym (b .pre .1 .0) in
     let few : b .args .procedures ≤ 64 = omega (arith, sizes-few s) in (
@@ -54,7 +58,7 @@ index-2-if1 c = search needs
 
 returns : tie.Need-returns Inv-loop μ-loop
 returns c =
-    let b = c .before .before .before .before .before .before .before .before .before .before in
+    let b = to-start (c .before .before .before .before .before) in
     let n = decode-roots (b .args .s .now) (b .pre .1 .1 .0 .enough) in
     let h = c .before .before .before .loop .inv in
     let p = c .before .before .before .loop .p in
@@ -68,14 +72,14 @@ loop-less c = search needs
 
 loop-again : tie.Need-loop-again Inv-loop μ-loop
 loop-again c =
-    let b = c .before .before .before .before .before .before .before .before .before .before in
+    let b = to-start (c .before .before .before .before .before) in
     let h = c .before .before .before .loop .inv in
     let p = c .before .before .before .loop .p in
     (omega arith, h .1, h .2, below-more _ _ (h .3) (sym (h .2 p (omega arith)) ∙ c .if1 .left))
 
 returns-2 : tie.Need-returns-2 Inv-loop μ-loop
 returns-2 c =
-    let b = c .before .before .before .before .before .before .before .before in
+    let b = to-start (c .before .before .before) in
     let n = decode-roots (b .args .s .now) (b .pre .1 .1 .0 .enough) in
     record { within = omega arith; below = c .before .loop .inv .3; here = λ lt. absurd (omega arith) }
 

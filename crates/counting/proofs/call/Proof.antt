@@ -23,34 +23,54 @@ use Rattle.counting.proofs.Replies.{turned, lengths, state, switched, c
 use Rattle.counting.proofs.call.Statement.{statement}
 use Rattle.counting.proofs.call.Tie as tie
 
-accepted : (c : tie.Else1) → numberOf (verdict (c .before .before .before .before .before .before .args .score .now)) ≡ 0
-accepted c = stages.accepted (c .before .before .before .before .before .before .args .score .now) (c .before .number-of .ensures) (c .before .before .check .ensures) (c .if1 .left)
+-- Stations of the walk, each from a later place.
+abbrev to-start : tie.After-number-of → tie.Start
+to-start c = c .before .before .before .before .before
 
-playable : (c : tie.Else1) → Playable (c .before .before .before .before .before .before .args .score .now)
-playable c = stages.playable (c .before .before .before .before .before .before .args .score .now) (accepted c)
+abbrev to-lengths : tie.After-sizes-of → tie.Else2
+to-lengths c = c .before .before
 
-sizes-are : (c : tie.After-sizes-of) → c .sizes-of .result ≡ sizes (c .before .before .before .before .before .before .before .before .before .args .score .now)
-sizes-are c = head-read (c .before .before .before .before .before .before .before .before .before .args .score .now) (c .before .word-at .ensures) (c .sizes-of .ensures)
+abbrev to-sizes : tie.Else3 → tie.After-sizes-of
+to-sizes c = c .before .before
 
-fault-is : (c : tie.After-state-fault) → c .state-fault .result ≡ stateFault (sizes (c .before .before .before .before .before .before .before .before .before .before .args .score .now) .agents) (c .before .before .before .before .before .before .before .before .before .before .args .state .now)
-fault-is c = by-head (λ h. stateFault (h .agents) (c .before .before .before .before .before .before .before .before .before .before .args .state .now)) (sizes-are (c .before)) (c .state-fault .ensures)
+abbrev to-state : tie.Else4 → tie.Else3
+to-state c = c .before .before
 
-switches-are : (c : tie.After-switch-fault) → c .switch-fault .result ≡ switchFault (sizes (c .before .before .before .before .before .before .before .before .before .before .before .before .args .score .now) .tokens) (c .before .before .before .before .before .before .before .before .before .before .before .before .args .switches .now)
-switches-are c = by-head (λ h. switchFault (h .tokens) (c .before .before .before .before .before .before .before .before .before .before .before .before .args .switches .now)) (sizes-are (c .before .before .before)) (c .switch-fault .ensures)
+abbrev to-switches : tie.After-try-settings → tie.Else4
+to-switches c = c .before .before .before .before .before
 
-long : (c : tie.Else2) → not (eqb (length (c .before .before .before .before .before .before .before .args .state .now)) stateBytes) ≡ false
-long c = ap not (eq-eqb (length (c .before .before .before .before .before .before .before .args .state .now)) stateBytes (c .if2 .left))
+accepted : (c : tie.Else1) → numberOf (verdict (to-start (c .before) .args .score .now)) ≡ 0
+accepted c = stages.accepted (to-start (c .before) .args .score .now) (c .before .number-of .ensures) (c .before .before .check .ensures) (c .if1 .left)
 
-lawful : (c : tie.Else3) → stateFault (sizes (c .before .before .before .before .before .before .before .before .before .before .before .args .score .now) .agents) (c .before .before .before .before .before .before .before .before .before .before .before .args .state .now) ≡ false
+playable : (c : tie.Else1) → Playable (to-start (c .before) .args .score .now)
+playable c = stages.playable (to-start (c .before) .args .score .now) (accepted c)
+
+sizes-are : (c : tie.After-sizes-of) → c .sizes-of .result ≡ sizes (to-start (to-lengths c .before .before) .args .score .now)
+sizes-are c = head-read (to-start (to-lengths c .before .before) .args .score .now) (c .before .word-at .ensures) (c .sizes-of .ensures)
+
+fault-is : (c : tie.After-state-fault) → let b = to-start (to-lengths (c .before) .before .before) in c .state-fault .result ≡ stateFault (sizes (b .args .score .now) .agents) (b .args .state .now)
+fault-is c = by-head (λ h. stateFault (h .agents) (to-start (to-lengths (c .before) .before .before) .args .state .now)) (sizes-are (c .before)) (c .state-fault .ensures)
+
+switches-are : (c : tie.After-switch-fault) → let b = to-start (to-lengths (to-sizes (c .before)) .before .before) in c .switch-fault .result ≡ switchFault (sizes (b .args .score .now) .tokens) (b .args .switches .now)
+switches-are c =
+    let at-sizes = to-sizes (c .before) in
+    by-head (λ h. switchFault (h .tokens) (to-start (to-lengths at-sizes .before .before) .args .switches .now)) (sizes-are at-sizes) (c .switch-fault .ensures)
+
+long : (c : tie.Else2) → not (eqb (length (to-start (c .before .before) .args .state .now)) stateBytes) ≡ false
+long c = ap not (eq-eqb (length (to-start (c .before .before) .args .state .now)) stateBytes (c .if2 .left))
+
+lawful : (c : tie.Else3) → let b = to-start (to-lengths (to-sizes c) .before .before) in stateFault (sizes (b .args .score .now) .agents) (b .args .state .now) ≡ false
 lawful c = sym (fault-is (c .before)) ∙ c .if3 .left
 
-pressed-are : (c : tie.After-switch-fault) → (c .switch-fault .result || leb (suc (length (c .before .before .before .before .before .before .before .before .before .before .before .before .args .switches .now))) (c .before .before .before .before .before .before .before .before .before .before .before .before .args .k)) ≡ pressFault (sizes (c .before .before .before .before .before .before .before .before .before .before .before .before .args .score .now) .tokens) (c .before .before .before .before .before .before .before .before .before .before .before .before .args .switches .now) (c .before .before .before .before .before .before .before .before .before .before .before .before .args .k)
-pressed-are c = ap (λ f. f || leb (suc (length (c .before .before .before .before .before .before .before .before .before .before .before .before .args .switches .now))) (c .before .before .before .before .before .before .before .before .before .before .before .before .args .k)) (switches-are c)
+pressed-are : (c : tie.After-switch-fault) → let b = to-start (to-lengths (to-sizes (c .before)) .before .before) in (c .switch-fault .result || leb (suc (length (b .args .switches .now))) (b .args .k)) ≡ pressFault (sizes (b .args .score .now) .tokens) (b .args .switches .now) (b .args .k)
+pressed-are c =
+    let b = to-start (to-lengths (to-sizes (c .before)) .before .before) in
+    ap (λ f. f || leb (suc (length (b .args .switches .now))) (b .args .k)) (switches-are c)
 
-passed : (c : tie.Else4) → (c .before .switch-fault .result || leb (suc (length (c .before .before .before .before .before .before .before .before .before .before .before .before .before .args .switches .now))) (c .before .before .before .before .before .before .before .before .before .before .before .before .before .args .k)) ≡ false
+passed : (c : tie.Else4) → let b = to-start (to-lengths (to-sizes (to-state c)) .before .before) in (c .before .switch-fault .result || leb (suc (length (b .args .switches .now))) (b .args .k)) ≡ false
 passed c = c .if4 .left
 
-none : (c : tie.Else4) → (switchFault (sizes (c .before .before .before .before .before .before .before .before .before .before .before .before .before .args .score .now) .tokens) (c .before .before .before .before .before .before .before .before .before .before .before .before .before .args .switches .now) ≡ false) × (leb (suc (length (c .before .before .before .before .before .before .before .before .before .before .before .before .before .args .switches .now))) (c .before .before .before .before .before .before .before .before .before .before .before .before .before .args .k) ≡ false)
+none : (c : tie.Else4) → let b = to-start (to-lengths (to-sizes (to-state c)) .before .before) in (switchFault (sizes (b .args .score .now) .tokens) (b .args .switches .now) ≡ false) × (leb (suc (length (b .args .switches .now))) (b .args .k) ≡ false)
 none c = neither _ _ (sym (pressed-are (c .before)) ∙ passed c)
 
 check-requires : tie.Need-check-requires
@@ -60,10 +80,10 @@ number-of-requires : tie.Need-number-of-requires
 number-of-requires c κs = search needs
 
 returns : tie.Need-returns
-returns c = let b = c .before .before .before .before .before .before .args in record { replies = turned (b .score .now) (b .state .now) (b .switches .now) (b .k) (c .before .number-of .ensures) (c .before .before .check .ensures) (c .if1 .taken) }
+returns c = let b = to-start (c .before) .args in record { replies = turned (b .score .now) (b .state .now) (b .switches .now) (b .k) (c .before .number-of .ensures) (c .before .before .check .ensures) (c .if1 .taken) }
 
 returns-2 : tie.Need-returns-2
-returns-2 c = let b = c .before .before .before .before .before .before .before .args in record { replies = lengths (b .score .now) (b .state .now) (b .switches .now) (b .k) (accepted (c .before)) (ap not (ne-eqb (length (b .state .now)) stateBytes (c .if2 .taken))) }
+returns-2 c = let b = to-start (c .before .before) .args in record { replies = lengths (b .score .now) (b .state .now) (b .switches .now) (b .k) (accepted (c .before)) (ap not (ne-eqb (length (b .state .now)) stateBytes (c .if2 .taken))) }
 
 word-at-requires : tie.Need-word-at-requires
 word-at-requires c κs = omega (arith, playable (c .before) .whole)
@@ -76,33 +96,44 @@ state-fault-requires c κs = search needs
 
 returns-3 : tie.Need-returns-3
 returns-3 c =
-    let b = c .before .before .before .before .before .before .before .before .before .before .before .args in
-    record { replies = state (b .score .now) (b .state .now) (b .switches .now) (b .k) (accepted (c .before .before .before .before .before)) (long (c .before .before .before .before)) (sym (fault-is (c .before)) ∙ c .if3 .taken) }
+    let at-lengths = to-lengths (c .before .before) in
+    let at-score = at-lengths .before in
+    let b = to-start (at-score .before) .args in
+    record { replies = state (b .score .now) (b .state .now) (b .switches .now) (b .k) (accepted at-score) (long at-lengths) (sym (fault-is (c .before)) ∙ c .if3 .taken) }
 
 switch-fault-requires : tie.Need-switch-fault-requires
 switch-fault-requires c κs = search needs
 
 returns-4 : tie.Need-returns-4
 returns-4 c =
-    let b = c .before .before .before .before .before .before .before .before .before .before .before .before .before .args in
-    record { replies = switched (b .score .now) (b .state .now) (b .switches .now) (b .k) (accepted (c .before .before .before .before .before .before .before)) (long (c .before .before .before .before .before .before)) (lawful (c .before .before)) (sym (pressed-are (c .before)) ∙ c .if4 .taken) }
+    let at-lengths = to-lengths (to-sizes (c .before .before)) in
+    let at-score = at-lengths .before in
+    let b = to-start (at-score .before) .args in
+    record { replies = switched (b .score .now) (b .state .now) (b .switches .now) (b .k) (accepted at-score) (long at-lengths) (lawful (c .before .before)) (sym (pressed-are (c .before)) ∙ c .if4 .taken) }
 
 standing-in-requires : tie.Need-standing-in-requires
 standing-in-requires c κs = search needs
 
+few : (c : tie.Else4) → length (to-start (to-lengths (to-sizes (to-state c)) .before .before) .args .switches .now) ≤ mostSwitches
+few c =
+    let b = to-start (to-lengths (to-sizes (to-state c)) .before .before) in
+    faultless (sizes (b .args .score .now) .tokens) (b .args .switches .now) (none c .0) .0
+
 try-settings-requires : tie.Need-try-settings-requires
 try-settings-requires c κs =
-    let s = c .before .before .before .before .before in
-    let few : length (c .before .before .before .before .before .before .before .before .before .before .before .before .before .before .before .before .before .args .switches .now) ≤ mostSwitches = faultless (sizes (c .before .before .before .before .before .before .before .before .before .before .before .before .before .before .before .before .before .args .score .now) .tokens) (c .before .before .before .before .before .before .before .before .before .before .before .before .before .before .before .before .before .args .switches .now) (none (c .before .before .before .before) .0) .0 in
-    (sizes-are (c .before .before .before .before .before .before .before .before), (playable (c .before .before .before .before .before .before .before .before .before .before .before), (search needs, (refl, few))))
+    let e = c .before .before .before .before in
+    (sizes-are (to-sizes (to-state e)), (playable (to-lengths (to-sizes (to-state e)) .before), (search needs, (refl, few e))))
 
 returns-5 : tie.Need-returns-5
 returns-5 c =
-    let b = c .before .before .before .before .before .before .before .before .before .before .before .before .before .before .before .before .before .before .args in
-    let e = c .before .before .before .before .before in
+    let at-state = to-state (to-switches c) in
+    let at-lengths = to-lengths (to-sizes at-state) in
+    let at-score = at-lengths .before in
+    let b = to-start (at-score .before) .args in
+    let e = to-switches c in
     record {
       replies =
-          counts-all (b .score .now) (b .state .now) (b .switches .now) (b .k) (accepted (c .before .before .before .before .before .before .before .before .before .before .before .before)) (long (c .before .before .before .before .before .before .before .before .before .before .before)) (lawful (c .before .before .before .before .before .before .before)) (sym (pressed-are (e .before)) ∙ passed e) _
+          counts-all (b .score .now) (b .state .now) (b .switches .now) (b .k) (accepted at-score) (long at-lengths) (lawful at-state) (sym (pressed-are (e .before)) ∙ passed e) _
           (c .try-settings .ensures .0 ∙ from-standing (b .score .now) (b .state .now) (b .switches .now) (b .k) _ (c .before .before .before .before .standing-in .ensures));
     }
 

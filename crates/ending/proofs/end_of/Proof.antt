@@ -21,6 +21,13 @@ Inv-loop s head live held scratch₀ awake₀ k₀ scratch awake k =
 abbrev μ-loop : tie.MeasureT-loop
 μ-loop s head live held scratch₀ awake₀ k₀ scratch awake k = head .agents + 32 - 32 * k
 
+-- Stations of the walk, each from a later place.
+abbrev to-start : tie.At-loop Inv-loop μ-loop → tie.Start Inv-loop μ-loop
+to-start c = c .before .before .before
+
+abbrev to-loop : tie.After-part-of Inv-loop μ-loop → tie.At-loop Inv-loop μ-loop
+to-loop c = c .before .before .before .before
+
 loop-holds : tie.Need-loop-holds Inv-loop μ-loop
 loop-holds c =
     let b = c .before .before in
@@ -31,19 +38,19 @@ loop-holds c =
 
 -- the scratch has its length, and no bit is set beyond the words of the score's agents
 parts-few : (c : tie.At-loop Inv-loop μ-loop) → c .loop .k ≤ 32
-parts-few c = let b = c .before .before .before in omega (arith, c .loop .inv .0, agents-few (b .pre .1 .0) (b .pre .0))
+parts-few c = let b = to-start c in omega (arith, c .loop .inv .0, agents-few (b .pre .1 .0) (b .pre .0))
 
 long : (c : tie.At-loop Inv-loop μ-loop) → length (c .loop .scratch) ≡ scratchBytes
 long c =
-    let b = c .before .before .before in
+    let b = to-start c in
     marked-long (decode (b .args .s .now)) (setOf (b .args .live .now)) (setOf (b .args .held .now)) (c .loop .k) (c .loop .scratch) (c .loop .inv .2) (parts-few c)
 
-same : (c : tie.At-loop Inv-loop μ-loop) → length (c .loop .scratch) ≡ length (c .before .before .before .args .scratch .now)
-same c = long c ∙ sym (ap length (c .before .before .before .pre .1 .1) ∙ length-replicate {A = ℕ} scratchBytes 0)
+same : (c : tie.At-loop Inv-loop μ-loop) → length (c .loop .scratch) ≡ length (to-start c .args .scratch .now)
+same c = long c ∙ sym (ap length (to-start c .pre .1 .1) ∙ length-replicate {A = ℕ} scratchBytes 0)
 
-unset : (c : tie.At-loop Inv-loop μ-loop) → (i : ℕ) → 4 * ((length (decode (c .before .before .before .args .s .now) .agents) + 31) / 32) ≤ i → getD (c .loop .scratch) i 0 ≡ 0
+unset : (c : tie.At-loop Inv-loop μ-loop) → (i : ℕ) → 4 * ((length (decode (to-start c .args .s .now) .agents) + 31) / 32) ≤ i → getD (c .loop .scratch) i 0 ≡ 0
 unset c i h =
-    let b = c .before .before .before in
+    let b = to-start c in
     marked-unset (decode (b .args .s .now)) (setOf (b .args .live .now)) (setOf (b .args .held .now)) (c .loop .k) (c .loop .scratch) (c .loop .inv .2) i
     (omega (arith, c .loop .inv .0, agents-all (b .pre .1 .0) (b .pre .0)))
 
@@ -53,15 +60,15 @@ mul-if1 c = omega (arith, parts-few c)
 part-of-requires : tie.Need-part-of-requires Inv-loop μ-loop
 part-of-requires c κs =
     let l = c .before .before .before in
-    let b = l .before .before .before in
+    let b = to-start l in
     (b .pre .0, (b .pre .1 .0, (omega arith, l .loop .inv .1)))
 
 same-length : tie.Need-same-length Inv-loop μ-loop
-same-length c = same (c .before .before .before .before .before)
+same-length c = same (to-loop (c .before))
 
 returns : tie.Need-returns Inv-loop μ-loop
 returns c =
-    let l = c .before .before .before .before .before in
+    let l = to-loop (c .before) in
     record {
       aborted = sym (c .before .part-of .ensures .aborts (c .if2 .taken));
       reduced = λ e. absurd (true-is-false refl e);
@@ -72,12 +79,12 @@ returns c =
 
 put-word-requires : tie.Need-put-word-requires Inv-loop μ-loop
 put-word-requires c κs =
-    let l = c .before .before .before .before .before .before in
-    let b = l .before .before .before in
+    let l = to-loop (c .before .before) in
+    let b = to-start l in
     omega (arith, long l, agents-few (b .pre .1 .0) (b .pre .0))
 
 add-k : tie.Need-add-k Inv-loop μ-loop
-add-k c = omega (arith, parts-few (c .before .before .before .before .before .before .before .before .before))
+add-k c = omega (arith, parts-few (to-loop (c .before .before .before .before .before)))
 
 loop-less : tie.Need-loop-less Inv-loop μ-loop
 loop-less c = omega arith
@@ -85,8 +92,8 @@ loop-less c = omega arith
 loop-again : tie.Need-loop-again Inv-loop μ-loop
 loop-again c =
     let p = c .before .before .before .before .before in
-    let l = p .before .before .before .before in
-    let b = l .before .before .before in
+    let l = to-loop p in
+    let b = to-start l in
     let part = p .part-of .ensures in
     let quiet = c .before .before .before .before .if2 .left in
     (omega arith, part .read quiet, marked-more (decode (b .args .s .now)) (setOf (b .args .live .now)) (setOf (b .args .held .now)) (l .loop .k) (p .part-of .result .reduced) (l .loop .scratch) (c .before .before .put-word .last .0) (l .loop .inv .2) (part .reduced quiet) (c .before .before .put-word .ensures))
@@ -97,7 +104,7 @@ same-length-2 c = same (c .before .before)
 returns-2 : tie.Need-returns-2 Inv-loop μ-loop
 returns-2 c =
     let l = c .before .before in
-    let b = l .before .before .before in
+    let b = to-start l in
     let sc = decode (b .args .s .now) in
     let live = setOf (b .args .live .now) in
     let held = setOf (b .args .held .now) in

@@ -11,6 +11,13 @@ use Rattle.history.proofs.FromStanding.{stepped}
 use Rattle.history.proofs.step_from.Statement.{statement}
 use Rattle.history.proofs.step_from.Tie as tie
 
+-- Stations of the walk, each from a later place.
+abbrev to-start : tie.After-answer-from → tie.Start
+to-start c = c .before .before .before .before
+
+abbrev to-answer : tie.After-standing-after → tie.After-answer-from
+to-answer c = c .before .before .before .before .before .before .before .before
+
 answer-from-requires : tie.Need-answer-from-requires
 answer-from-requires c κs = search needs
 
@@ -27,12 +34,15 @@ standing-after-requires : tie.Need-standing-after-requires
 standing-after-requires c κs = search needs
 
 same-length : tie.Need-same-length
-same-length c = ap length (c .before .before .before .before .before .before .before .before .answer-from .ensures .1 ∙ sym (c .before .before .before .before .before .before .before .before .before .before .before .before .pre .1 .1 .1 .1))
+same-length c =
+    let at-answer = to-answer c in
+    ap length (at-answer .answer-from .ensures .1 ∙ sym (to-start at-answer .pre .1 .1 .1 .1))
 
 returns : tie.Need-returns
 returns c =
-    let b = c .before .before .before .before .before .before .before .before .before .before .before .before in
-    let o = c .before .before .before .before .before .before .before .before .answer-from in (
+    let at-answer = to-answer c in
+    let b = to-start at-answer in
+    let o = at-answer .answer-from in (
       stepped (b .args .score .now) (b .pre .1 .0) (stateIn (b .args .standing)) (b .pre .1 .1 .0) (b .args .told) (b .pre .1 .1 .1 .0) (o .result) (o .ensures .0)
           _ refl (c .before .before .before .sent .ensures)
           (by-head (λ h. any (λ i. leb (h .agents) i) (setOf (o .result .awake))) (b .pre .0) (c .before .any-from .ensures))

@@ -9,6 +9,10 @@ use Rattle.history.proofs.Starts.{start-lawful, start-bytes}
 use Rattle.history.proofs.write_start.Statement.{statement}
 use Rattle.history.proofs.write_start.Tie as tie
 
+-- Stations of the walk, each from a later place.
+abbrev to-start : tie.After-write-standing-arg → tie.Start
+to-start c = c .before .before .before .before .before .before
+
 sizes-are : (c : tie.After-sizes-of) → c .sizes-of .result ≡ sizes (c .before .before .before .before .args .score .now)
 sizes-are c = head-read (c .before .before .before .before .args .score .now) (c .before .word-at .ensures) (c .sizes-of .ensures)
 
@@ -23,7 +27,7 @@ start-requires c κs = (sizes-are c, c .before .before .before .before .pre .0)
 
 write-standing-requires : tie.Need-write-standing-requires
 write-standing-requires c κs =
-    let b = c .before .before .before .before .before .before in
+    let b = to-start c in
     (b .pre .1, subst⁻¹ (λ h. LawfulState (h .agents) (stateIn (c .before .start .result))) (sizes-are (c .before .before)) (subst⁻¹ (LawfulState (sizes (b .args .score .now) .agents)) (c .before .start .ensures) (start-lawful (b .args .score .now) (b .pre .0))))
 
 same-length : tie.Need-same-length
@@ -31,7 +35,7 @@ same-length c = search needs
 
 returns : tie.Need-returns
 returns c =
-    let b = c .before .before .before .before .before .before .before .before .before in
+    let b = to-start (c .before .before .before) in
     c .before .before .write-standing .ensures ∙ ap (λ st. numbered st 0) (c .before .before .before .before .start .ensures) ∙ start-bytes (b .args .score .now) (b .pre .0)
 
 pub write-start-spec : {M : Type 1} → statement M

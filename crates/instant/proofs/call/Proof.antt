@@ -30,61 +30,94 @@ use Rattle.instant.proofs.Exits.{turned, lengths, state, input, last, s
 use Rattle.instant.proofs.call.Statement.{statement}
 use Rattle.instant.proofs.call.Tie as tie
 
+-- Stations of the walk, each from a later place.
+abbrev to-start : tie.After-number-of → tie.Start
+to-start c = c .before .before .before .before .before .before .before .before
+
+abbrev to-score : tie.Else2 → tie.Else1
+to-score c = c .before .before
+
+abbrev to-lengths : tie.After-sizes-of → tie.Else2
+to-lengths c = c .before .before
+
+abbrev to-sizes : tie.Else3 → tie.After-sizes-of
+to-sizes c = c .before .before .before
+
+abbrev to-state : tie.Else4 → tie.Else3
+to-state c = c .before .before .before .before
+
+abbrev to-input : tie.After-number-in → tie.Else4
+to-input c = c .before .before
+
+abbrev to-number : tie.After-answer-in-arg2 → tie.After-number-in
+to-number c = c .before .before .before .before .before .before .before
+
+abbrev to-answer : tie.After-any-from2 → tie.After-answer-in
+to-answer c = c .before .before .before .before .before
+
+abbrev to-hand-over : tie.After-slice-known9 → tie.After-hand-over
+to-hand-over c = c .before .before .before .before .before .before
+
 abbrev buffers : tie.Start → Lent
 buffers b = lent (b .args .state .now) (b .args .store .now) (b .args .output .now) (b .args .scratch .now)
 
-accepted : (c : tie.Else1) → numberOf (verdict (c .before .before .before .before .before .before .before .before .before .args .score .now)) ≡ 0
-accepted c = stages.accepted (c .before .before .before .before .before .before .before .before .before .args .score .now) (c .before .number-of .ensures) (c .before .before .check .ensures) (c .if1 .left)
+accepted : (c : tie.Else1) → numberOf (verdict (to-start (c .before) .args .score .now)) ≡ 0
+accepted c = stages.accepted (to-start (c .before) .args .score .now) (c .before .number-of .ensures) (c .before .before .check .ensures) (c .if1 .left)
 
-lengths-tested : (c : tie.After-wrong-length) → c .wrong-length .result ≡ lengthFault (c .before .before .before .before .before .before .before .before .before .before .args .input .now) (buffers (c .before .before .before .before .before .before .before .before .before .before))
+lengths-tested : (c : tie.After-wrong-length) → let b = to-start (c .before .before) in c .wrong-length .result ≡ lengthFault (b .args .input .now) (buffers b)
 lengths-tested c = c .wrong-length .ensures
 
-long : (c : tie.Else2) → lengthFault (c .before .before .before .before .before .before .before .before .before .before .before .args .input .now) (buffers (c .before .before .before .before .before .before .before .before .before .before .before)) ≡ false
+long : (c : tie.Else2) → let b = to-start (to-score c .before) in lengthFault (b .args .input .now) (buffers b) ≡ false
 long c = sym (lengths-tested (c .before)) ∙ c .if2 .left
 
 -- by the five lengths
-lengths-are : (c : tie.Else2) → Lengths-are (c .before .before .before .before .before .before .before .before .before .before .before .args .input .now) (buffers (c .before .before .before .before .before .before .before .before .before .before .before))
-lengths-are c = right-lengths (c .before .before .before .before .before .before .before .before .before .before .before .args .input .now) (buffers (c .before .before .before .before .before .before .before .before .before .before .before)) (long c)
+lengths-are : (c : tie.Else2) → let b = to-start (to-score c .before) in Lengths-are (b .args .input .now) (buffers b)
+lengths-are c =
+    let b = to-start (to-score c .before) in
+    right-lengths (b .args .input .now) (buffers b) (long c)
 
-playable : (c : tie.Else1) → Playable (c .before .before .before .before .before .before .before .before .before .args .score .now)
-playable c = stages.playable (c .before .before .before .before .before .before .before .before .before .args .score .now) (accepted c)
+playable : (c : tie.Else1) → Playable (to-start (c .before) .args .score .now)
+playable c = stages.playable (to-start (c .before) .args .score .now) (accepted c)
 
-sizes-are : (c : tie.After-sizes-of) → c .sizes-of .result ≡ sizes (c .before .before .before .before .before .before .before .before .before .before .before .before .before .args .score .now)
-sizes-are c = head-read (c .before .before .before .before .before .before .before .before .before .before .before .before .before .args .score .now) (c .before .word-at .ensures) (c .sizes-of .ensures)
+sizes-are : (c : tie.After-sizes-of) → c .sizes-of .result ≡ sizes (to-start (to-score (to-lengths c) .before) .args .score .now)
+sizes-are c = head-read (to-start (to-score (to-lengths c) .before) .args .score .now) (c .before .word-at .ensures) (c .sizes-of .ensures)
 
-fault-is : (c : tie.After-state-fault) → c .state-fault .result ≡ stateFault (sizes (c .before .before .before .before .before .before .before .before .before .before .before .before .before .before .before .args .score .now) .agents) (c .before .before .before .before .before .before .before .before .before .before .before .before .before .before .before .args .state .now)
-fault-is c = by-head (λ h. stateFault (h .agents) (c .before .before .before .before .before .before .before .before .before .before .before .before .before .before .before .args .state .now)) (sizes-are (c .before .before)) (c .state-fault .ensures)
+fault-is : (c : tie.After-state-fault) → let b = to-start (to-score (to-lengths (c .before .before)) .before) in c .state-fault .result ≡ stateFault (sizes (b .args .score .now) .agents) (b .args .state .now)
+fault-is c = by-head (λ h. stateFault (h .agents) (to-start (to-score (to-lengths (c .before .before)) .before) .args .state .now)) (sizes-are (c .before .before)) (c .state-fault .ensures)
 
-state-lawful : (c : tie.Else3) → stateFault (sizes (c .before .before .before .before .before .before .before .before .before .before .before .before .before .before .before .before .args .score .now) .agents) (c .before .before .before .before .before .before .before .before .before .before .before .before .before .before .before .before .args .state .now) ≡ false
+state-lawful : (c : tie.Else3) → let b = to-start (to-score (to-lengths (to-sizes c)) .before) in stateFault (sizes (b .args .score .now) .agents) (b .args .state .now) ≡ false
 state-lawful c = sym (fault-is (c .before)) ∙ c .if3 .left
 
-inputs-are : (c : tie.After-read-map) → setOf (c .read-map .result) ≡ tokensIn (c .before .before .before .before .before .before .before .before .before .before .before .before .before .before .before .before .before .args .input .now)
-inputs-are c = ap setOf (c .read-map .ensures) ∙ tokens-set (c .before .before .before .before .before .before .before .before .before .before .before .before .before .before .before .before .before .args .input .now)
+inputs-are : (c : tie.After-read-map) → setOf (c .read-map .result) ≡ tokensIn (to-start (to-score (to-lengths (to-sizes (c .before))) .before) .args .input .now)
+inputs-are c = ap setOf (c .read-map .ensures) ∙ tokens-set (to-start (to-score (to-lengths (to-sizes (c .before))) .before) .args .input .now)
 
-token-fault : (c : tie.After-any-from) → c .any-from .result ≡ tokenFault (c .before .before .before .before .before .before .before .before .before .before .before .before .before .before .before .before .before .before .before .args .score .now) (c .before .before .before .before .before .before .before .before .before .before .before .before .before .before .before .before .before .before .before .args .input .now)
+token-fault : (c : tie.After-any-from) → let b = to-start (to-score (to-lengths (to-sizes (c .before .before .before))) .before) in c .any-from .result ≡ tokenFault (b .args .score .now) (b .args .input .now)
 token-fault c =
     c .any-from .ensures
-    ∙ ap₂ (λ h l. any (λ t. leb (h .tokens) t) l) (sizes-are (c .before .before .before .before .before .before)) (inputs-are (c .before .before))
+    ∙ ap₂ (λ h l. any (λ t. leb (h .tokens) t) l) (sizes-are (to-sizes (c .before .before .before))) (inputs-are (c .before .before))
 
 -- the answer that the call gives
 abbrev answer-of : tie.Start → Answer
 answer-of b = answer (decode (b .args .score .now)) (stateOf (b .args .state .now)) (tokensIn (b .args .input .now))
 
-outcome-is : (c : tie.After-answer-in) → c .answer-in .result ≡ outcomeOf (answer-of (c .before .before .before .before .before .before .before .before .before .before .before .before .before .before .before .before .before .before .before .before .before .before .before .before .before .before .before .before .before .before))
+outcome-is : (c : tie.After-answer-in) → c .answer-in .result ≡ outcomeOf (answer-of (to-start (to-score (to-lengths (to-sizes (to-state (to-input (to-number (c .before)))))) .before)))
 outcome-is c =
-    let b = c .before .before .before .before .before .before .before .before .before .before .before .before .before .before .before .before .before .before .before .before .before .before .before .before .before .before .before .before .before .before in
-    c .answer-in .ensures .0 ∙ ap (λ l. outcomeOf (answer (decode (b .args .score .now)) (stateOf (b .args .state .now)) l)) (inputs-are (c .before .before .before .before .before .before .before .before .before .before .before .before .before))
+    let at-input = to-input (to-number (c .before)) in
+    let b = to-start (to-score (to-lengths (to-sizes (to-state at-input))) .before) in
+    c .answer-in .ensures .0 ∙ ap (λ l. outcomeOf (answer (decode (b .args .score .now)) (stateOf (b .args .state .now)) l)) (inputs-are (at-input .before .before .before))
 
-tokens-known : (c : tie.Else4) → tokenFault (c .before .before .before .before .before .before .before .before .before .before .before .before .before .before .before .before .before .before .before .before .args .score .now) (c .before .before .before .before .before .before .before .before .before .before .before .before .before .before .before .before .before .before .before .before .args .input .now) ≡ false
+tokens-known : (c : tie.Else4) → let b = to-start (to-score (to-lengths (to-sizes (to-state c))) .before) in tokenFault (b .args .score .now) (b .args .input .now) ≡ false
 tokens-known c = sym (token-fault (c .before)) ∙ c .if4 .left
 
-inside : (c : tie.Else4) → Inside (decode (c .before .before .before .before .before .before .before .before .before .before .before .before .before .before .before .before .before .before .before .before .args .score .now)) (answer-of (c .before .before .before .before .before .before .before .before .before .before .before .before .before .before .before .before .before .before .before .before))
+inside : (c : tie.Else4) → let b = to-start (to-score (to-lengths (to-sizes (to-state c))) .before) in Inside (decode (b .args .score .now)) (answer-of b)
 inside c =
-    let b = c .before .before .before .before .before .before .before .before .before .before .before .before .before .before .before .before .before .before .before .before in
+    let at-state = to-state c in
+    let at-score = to-score (to-lengths (to-sizes at-state)) in
+    let b = to-start (at-score .before) in
     let s = b .args .score .now in
-    let p = playable (c .before .before .before .before .before .before .before .before .before .before .before) in
+    let p = playable at-score in
     answer-inside (decode s) (stateOf (b .args .state .now)) (tokensIn (b .args .input .now)) (p .lawful)
-    (subst⁻¹ (λ n. LawfulState n (stateOf (b .args .state .now))) (playable-agents s p) (faultless-lawful (sizes s .agents) (b .args .state .now) (state-lawful (c .before .before .before .before))))
+    (subst⁻¹ (λ n. LawfulState n (stateOf (b .args .state .now))) (playable-agents s p) (faultless-lawful (sizes s .agents) (b .args .state .now) (state-lawful at-state)))
     (λ t m. omega (arith, decode-tokens s, none-above (sizes s .tokens) (tokensIn (b .args .input .now)) (tokens-known c) t m))
 
 check-requires : tie.Need-check-requires
@@ -95,7 +128,7 @@ number-of-requires c κs = search needs
 
 returns : tie.Need-returns
 returns c =
-    let b = c .before .before .before .before .before .before .before .before .before in
+    let b = to-start (c .before) in
     record { exits = turned (b .args .score .now) (b .args .input .now) (buffers b) (c .before .number-of .ensures) (c .before .before .check .ensures) (c .if1 .taken) }
 
 wrong-length-requires : tie.Need-wrong-length-requires
@@ -103,7 +136,7 @@ wrong-length-requires c κs = search needs
 
 returns-2 : tie.Need-returns-2
 returns-2 c =
-    let b = c .before .before .before .before .before .before .before .before .before .before .before in
+    let b = to-start (c .before .before .before) in
     record { exits = lengths (b .args .score .now) (b .args .input .now) (buffers b) (accepted (c .before .before)) (sym (lengths-tested (c .before)) ∙ c .if2 .taken) }
 
 word-at-requires : tie.Need-word-at-requires
@@ -113,18 +146,20 @@ sizes-of-requires : tie.Need-sizes-of-requires
 sizes-of-requires c κs = search needs
 
 state-fault-requires : tie.Need-state-fault-requires
-state-fault-requires c κs = lengths-are (c .before .before .before) .state-long
+state-fault-requires c κs = lengths-are (to-lengths (c .before)) .state-long
 
 same-length : tie.Need-same-length
 same-length c = search needs
 
 returns-3 : tie.Need-returns-3
 returns-3 c =
-    let b = c .before .before .before .before .before .before .before .before .before .before .before .before .before .before .before .before in
-    record { exits = state (b .args .score .now) (b .args .input .now) (buffers b) (accepted (c .before .before .before .before .before .before .before)) (long (c .before .before .before .before .before)) (sym (fault-is (c .before)) ∙ c .if3 .taken) }
+    let at-lengths = to-lengths (c .before .before .before) in
+    let at-score = to-score at-lengths in
+    let b = to-start (at-score .before) in
+    record { exits = state (b .args .score .now) (b .args .input .now) (buffers b) (accepted at-score) (long at-lengths) (sym (fault-is (c .before)) ∙ c .if3 .taken) }
 
 read-map-requires : tie.Need-read-map-requires
-read-map-requires c κs = lengths-are (c .before .before .before .before .before) .input-long
+read-map-requires c κs = lengths-are (to-lengths (to-sizes c)) .input-long
 
 slice-aggregate-any-from : tie.Need-slice-aggregate-any-from
 slice-aggregate-any-from c = search needs
@@ -137,27 +172,36 @@ same-length-2 c = search needs
 
 returns-4 : tie.Need-returns-4
 returns-4 c =
-    let b = c .before .before .before .before .before .before .before .before .before .before .before .before .before .before .before .before .before .before .before .before in
-    record { exits = input (b .args .score .now) (b .args .input .now) (buffers b) (accepted (c .before .before .before .before .before .before .before .before .before .before .before)) (long (c .before .before .before .before .before .before .before .before .before)) (state-lawful (c .before .before .before .before)) (sym (token-fault (c .before)) ∙ c .if4 .taken) }
+    let at-state = c .before .before .before .before in
+    let at-lengths = to-lengths (to-sizes at-state) in
+    let at-score = to-score at-lengths in
+    let b = to-start (at-score .before) in
+    record { exits = input (b .args .score .now) (b .args .input .now) (buffers b) (accepted at-score) (long at-lengths) (state-lawful at-state) (sym (token-fault (c .before)) ∙ c .if4 .taken) }
 
 number-in-requires : tie.Need-number-in-requires
-number-in-requires c κs = lengths-are (c .before .before .before .before .before .before .before .before .before .before) .state-long
+number-in-requires c κs = lengths-are (to-lengths (to-sizes (to-state (c .before)))) .state-long
 
 same-length-3 : tie.Need-same-length-3
 same-length-3 c = search needs
 
 returns-5 : tie.Need-returns-5
 returns-5 c =
-    let b = c .before .before .before .before .before .before .before .before .before .before .before .before .before .before .before .before .before .before .before .before .before .before .before in
-    record { exits = last (b .args .score .now) (b .args .input .now) (buffers b) (accepted (c .before .before .before .before .before .before .before .before .before .before .before .before .before .before)) (long (c .before .before .before .before .before .before .before .before .before .before .before .before)) (state-lawful (c .before .before .before .before .before .before .before)) (tokens-known (c .before .before .before)) (c .before .number-in .ensures) (c .if5 .taken) }
+    let at-input = to-input (c .before) in
+    let at-state = to-state at-input in
+    let at-lengths = to-lengths (to-sizes at-state) in
+    let at-score = to-score at-lengths in
+    let b = to-start (at-score .before) in
+    record { exits = last (b .args .score .now) (b .args .input .now) (buffers b) (accepted at-score) (long at-lengths) (state-lawful at-state) (tokens-known at-input) (c .before .number-in .ensures) (c .if5 .taken) }
 
 clear-requires : tie.Need-clear-requires
 clear-requires c κs = search needs
 
 answer-in-requires : tie.Need-answer-in-requires
 answer-in-requires c κs =
-    let l = lengths-are (c .before .before .before .before .before .before .before .before .before .before .before .before .before .before .before .before .before .before) in
-    (sizes-are (c .before .before .before .before .before .before .before .before .before .before .before .before .before .before .before .before), (playable (c .before .before .before .before .before .before .before .before .before .before .before .before .before .before .before .before .before .before .before .before), (l .state-long, c .before .before .before .before .clear .ensures ∙ ap (λ k. replicate k 0) (l .scratch-long))))
+    let at-sizes = to-sizes (to-state (to-input (to-number c))) in
+    let at-lengths = to-lengths at-sizes in
+    let l = lengths-are at-lengths in
+    (sizes-are at-sizes, (playable (to-score at-lengths), (l .state-long, c .before .before .before .before .clear .ensures ∙ ap (λ k. replicate k 0) (l .scratch-long))))
 
 slice-aggregate-any-from-2 : tie.Need-slice-aggregate-any-from-2
 slice-aggregate-any-from-2 c = search needs
@@ -174,12 +218,16 @@ same-length-5 c = search needs
 returns-6 : tie.Need-returns-6
 unfolding outcomeOf
 returns-6 c =
-    let b = c .before .before .before .before .before .before .before .before .before .before .before .before .before .before .before .before .before .before .before .before .before .before .before .before .before .before .before .before .before .before .before .before .before .before .before .before in
+    let at-answer = to-answer (c .before) in
+    let at-input = to-input (to-number (at-answer .before)) in
+    let at-sizes = to-sizes (to-state at-input) in
+    let at-score = to-score (to-lengths at-sizes) in
+    let b = to-start (at-score .before) in
     let sc = decode (b .args .score .now) in
-    let h = ap (λ x. x .agents) (sizes-are (c .before .before .before .before .before .before .before .before .before .before .before .before .before .before .before .before .before .before .before .before .before .before .before)) in
-    let e = playable-agents (b .args .score .now) (playable (c .before .before .before .before .before .before .before .before .before .before .before .before .before .before .before .before .before .before .before .before .before .before .before .before .before .before .before)) in
-    let none : any (λ i. leb (c .before .before .before .before .before .before .before .before .before .before .before .before .before .before .before .before .before .before .before .before .before .before .before .sizes-of .result .agents) i) (setOf (c .before .before .before .before .before .before .answer-in .result .awake)) ≡ false =
-    from-none _ _ (λ i le. ap (λ o. getD (o .awake) i false) (outcome-is (c .before .before .before .before .before .before)) ∙ flags-known 1024 (length (sc .agents)) (answer-of b .awake) (inside (c .before .before .before .before .before .before .before .before .before .before .before .before .before .before .before .before) .agents) i (omega (arith, h, e))) in
+    let h = ap (λ x. x .agents) (sizes-are at-sizes) in
+    let e = playable-agents (b .args .score .now) (playable at-score) in
+    let none : any (λ i. leb (at-sizes .sizes-of .result .agents) i) (setOf (at-answer .answer-in .result .awake)) ≡ false =
+    from-none _ _ (λ i le. ap (λ o. getD (o .awake) i false) (outcome-is at-answer) ∙ flags-known 1024 (length (sc .agents)) (answer-of b .awake) (inside at-input .agents) i (omega (arith, h, e))) in
     absurd (true≢false (sym (c .if6 .taken) ∙ c .before .any-from2 .ensures ∙ none))
 
 add-hand-over : tie.Need-add-hand-over
@@ -188,21 +236,26 @@ add-hand-over c = search needs
 hand-over-requires : tie.Need-hand-over-requires
 unfolding outcomeOf
 hand-over-requires c κs =
-    let b = c .before .before .before .before .before .before .before .before .before .before .before .before .before .before .before .before .before .before .before .before .before .before .before .before .before .before .before .before .before .before .before .before .before .before .before .before .before .before .before in
+    let at-answer = to-answer (c .before .before .before .before) in
+    let at-input = to-input (to-number (at-answer .before)) in
+    let at-sizes = to-sizes (to-state at-input) in
+    let at-lengths = to-lengths at-sizes in
+    let at-score = to-score at-lengths in
+    let b = to-start (at-score .before) in
     let a = c .before .before .before in
-    let l = lengths-are (c .before .before .before .before .before .before .before .before .before .before .before .before .before .before .before .before .before .before .before .before .before .before .before .before .before .before .before .before) in
-    let h = sizes-are (c .before .before .before .before .before .before .before .before .before .before .before .before .before .before .before .before .before .before .before .before .before .before .before .before .before .before) in (
+    let l = lengths-are at-lengths in
+    let h = sizes-are at-sizes in (
       h,
       (
-        playable (c .before .before .before .before .before .before .before .before .before .before .before .before .before .before .before .before .before .before .before .before .before .before .before .before .before .before .before .before .before .before),
+        playable at-score,
         (
           record { state-bytes = l .state-long; store-bytes = l .store-long; output-bytes = l .output-long },
           record {
             agents = none-from _ _ (sym (c .before .before .before .before .any-from2 .ensures) ∙ a .if6 .left);
             tokens =
                 λ t le.
-                ap (λ o. getD (o .store) t false) (outcome-is (c .before .before .before .before .before .before .before .before .before))
-                ∙ flags-known 256 (decode (b .args .score .now) .tokens) (answer-of b .store) (inside (c .before .before .before .before .before .before .before .before .before .before .before .before .before .before .before .before .before .before .before) .tokens) t (omega (arith, decode-tokens (b .args .score .now), ap (λ x. x .tokens) h));
+                ap (λ o. getD (o .store) t false) (outcome-is at-answer)
+                ∙ flags-known 256 (decode (b .args .score .now) .tokens) (answer-of b .store) (inside at-input .tokens) t (omega (arith, decode-tokens (b .args .score .now), ap (λ x. x .tokens) h));
           },
         ),
       ),
@@ -222,19 +275,26 @@ same-length-9 c = search needs
 
 returns-7 : tie.Need-returns-7
 returns-7 c =
-    let b = c .before .before .before .before .before .before .before .before .before .before .before .before .before .before .before .before .before .before .before .before .before .before .before .before .before .before .before .before .before .before .before .before .before .before .before .before .before .before .before .before .before .before .before .before .before .before in
+    let at-hand-over = to-hand-over c in
+    let at-answer = to-answer (at-hand-over .before .before .before .before .before) in
+    let at-number = to-number (at-answer .before) in
+    let at-input = to-input at-number in
+    let at-state = to-state at-input in
+    let at-lengths = to-lengths (to-sizes at-state) in
+    let at-score = to-score at-lengths in
+    let b = to-start (at-score .before) in
     let s = b .args .score .now in
     let sc = decode s in
     let a = answer-of b in
-    let i = inside (c .before .before .before .before .before .before .before .before .before .before .before .before .before .before .before .before .before .before .before .before .before .before .before .before .before .before) in
-    let p = playable (c .before .before .before .before .before .before .before .before .before .before .before .before .before .before .before .before .before .before .before .before .before .before .before .before .before .before .before .before .before .before .before .before .before .before .before .before .before) in
+    let i = inside at-input in
+    let p = playable at-score in
     let few = sizes-few s in
     let n = playable-agents s p in
     let t = decode-tokens s in
     record {
       exits =
-          handed sc a (omega arith) (omega arith) i (outcome-is (c .before .before .before .before .before .before .before .before .before .before .before .before .before .before .before .before)) (c .before .before .before .before .before .before .hand-over .ensures) (b .args .state .now) (add-one (c .before .before .before .before .before .before .before .before .before .before .before .before .before .before .before .before .before .before .before .before .before .before .before .before .number-in .result) ∙ ap suc (c .before .before .before .before .before .before .before .before .before .before .before .before .before .before .before .before .before .before .before .before .before .before .before .before .number-in .ensures)) (c .before .before .before .before .before .before .before .before .before .before .before .before .before .before .before .before .answer-in .ensures .1)
-          (settled s (b .args .input .now) (buffers b) (accepted (c .before .before .before .before .before .before .before .before .before .before .before .before .before .before .before .before .before .before .before .before .before .before .before .before .before .before .before .before .before .before .before .before .before .before .before .before .before)) (long (c .before .before .before .before .before .before .before .before .before .before .before .before .before .before .before .before .before .before .before .before .before .before .before .before .before .before .before .before .before .before .before .before .before .before .before)) (state-lawful (c .before .before .before .before .before .before .before .before .before .before .before .before .before .before .before .before .before .before .before .before .before .before .before .before .before .before .before .before .before .before)) (tokens-known (c .before .before .before .before .before .before .before .before .before .before .before .before .before .before .before .before .before .before .before .before .before .before .before .before .before .before)) (c .before .before .before .before .before .before .before .before .before .before .before .before .before .before .before .before .before .before .before .before .before .before .before .before .number-in .ensures) (c .before .before .before .before .before .before .before .before .before .before .before .before .before .before .before .before .before .before .before .before .before .before .before .if5 .left) a refl (next-lawful sc a (sizes s .agents) n (omega arith) i));
+          handed sc a (omega arith) (omega arith) i (outcome-is at-answer) (at-hand-over .hand-over .ensures) (b .args .state .now) (add-one (at-number .number-in .result) ∙ ap suc (at-number .number-in .ensures)) (at-answer .answer-in .ensures .1)
+          (settled s (b .args .input .now) (buffers b) (accepted at-score) (long at-lengths) (state-lawful at-state) (tokens-known at-input) (at-number .number-in .ensures) (at-answer .before .before .before .before .before .before .before .if5 .left) a refl (next-lawful sc a (sizes s .agents) n (omega arith) i));
     }
 
 pub call-spec : {M : Type 1} → statement M

@@ -20,6 +20,13 @@ Inv-loop journal₀ from kind tokens set at₀ t₀ journal at t =
 abbrev μ-loop : tie.MeasureT-loop
 μ-loop journal₀ from kind tokens set at₀ t₀ journal at t = tokens - t
 
+-- Stations of the walk, each from a later place.
+abbrev to-start : tie.After-shared-slice-known2 Inv-loop μ-loop → tie.Start Inv-loop μ-loop
+to-start c = c .before .before .before .before .before
+
+abbrev to-token : tie.After-slice-known2 Inv-loop μ-loop → tie.Then1 Inv-loop μ-loop
+to-token c = c .before .before .before .before .before
+
 loop-holds : tie.Need-loop-holds Inv-loop μ-loop
 unfolding kept
 loop-holds c = let a = c .before .before .args in (omega arith, refl, omega arith, put-none (a .from) (a .journal .now))
@@ -34,33 +41,34 @@ word-of-requires : tie.Need-word-of-requires Inv-loop μ-loop
 word-of-requires c κs = search needs
 
 -- where a token is put, not all are
-room : (c : tie.Then1 Inv-loop μ-loop) → length (kept (c .before .before .before .before .before .before .args .set .now) (c .before .before .before .loop .t)) < length (setOf (c .before .before .before .before .before .before .args .set .now))
+room : (c : tie.Then1 Inv-loop μ-loop) → let b = to-start (c .before) in length (kept (b .args .set .now) (c .before .before .before .loop .t)) < length (setOf (b .args .set .now))
 room c =
-    let b = c .before .before .before .before .before .before in
+    let b = to-start (c .before) in
     kept-room (b .args .set .now) (b .args .tokens) (b .pre .1 .1 .0) (c .before .before .before .loop .t) (omega arith) (c .if1 .taken)
 
 put-word-requires : tie.Need-put-word-requires Inv-loop μ-loop
 put-word-requires c κs = omega (arith, room (c .before .before))
 
 add-at : tie.Need-add-at Inv-loop μ-loop
-add-at c = omega (arith, room (c .before .before .before .before .before))
+add-at c = omega (arith, room (to-token c))
 
 loop-less : tie.Need-loop-less Inv-loop μ-loop
 loop-less c = search needs
 
 loop-again : tie.Need-loop-again Inv-loop μ-loop
 loop-again c =
-    let b = c .before .before .before .before .before .before .before .before .before .before .before in
-    let l = c .before .before .before .before .before .before .before .before .loop in
+    let at-token = to-token c in
+    let b = to-start (at-token .before) in
+    let l = at-token .before .before .before .loop in
     let h = l .inv in
     let set = b .args .set .now in
-    let flag = c .before .before .before .before .before .if1 .taken in
+    let flag = at-token .if1 .taken in
     let put = c .before .before .put-word in (
       omega arith,
       put .kept .0 ∙ h .1,
       omega (arith, kept-count set (l .t) true flag),
       listed-more (b .args .from) (b .args .kind) set (l .t) (b .args .journal .now) flag
-          (l .at) (c .before .before .before .before .word-of .result) (l .journal) (put .last .0) (h .2) (c .before .before .before .before .word-of .ensures) (omega (arith, room (c .before .before .before .before .before))) (h .3) (put .ensures),
+          (l .at) (c .before .before .before .before .word-of .result) (l .journal) (put .last .0) (h .2) (c .before .before .before .before .word-of .ensures) (omega (arith, room at-token)) (h .3) (put .ensures),
     )
 
 loop-less-2 : tie.Need-loop-less-2 Inv-loop μ-loop
@@ -68,7 +76,7 @@ loop-less-2 c = search needs
 
 loop-again-2 : tie.Need-loop-again-2 Inv-loop μ-loop
 loop-again-2 c =
-    let a = c .before .before .before .before .before .before .args in
+    let a = to-start (c .before) .args in
     let l = c .before .before .before .loop in
     let h = l .inv in
     let set = a .set .now in

@@ -15,19 +15,32 @@ use Rattle.journalcheck.proofs.CheckExits.{turned, lengths, not-whole, 
 use Rattle.journalcheck.proofs.call.Statement.{statement}
 use Rattle.journalcheck.proofs.call.Tie as tie
 
-accepted : (c : tie.Else1) → numberOf (verdict (c .before .before .before .before .before .before .args .score .now)) ≡ 0
-accepted c = stages.accepted (c .before .before .before .before .before .before .args .score .now) (c .before .number-of .ensures) (c .before .before .check .ensures) (c .if1 .left)
+-- Stations of the walk, each from a later place.
+abbrev to-start : tie.After-number-of → tie.Start
+to-start c = c .before .before .before .before .before
 
-playable : (c : tie.Else1) → Playable (c .before .before .before .before .before .before .args .score .now)
-playable c = stages.playable (c .before .before .before .before .before .before .args .score .now) (accepted c)
+abbrev to-lengths : tie.After-form-of → tie.Else2
+to-lengths c = c .before .before .before
 
-sizes-are : (c : tie.After-sizes-of) → c .sizes-of .result ≡ sizes (c .before .before .before .before .before .before .before .before .before .args .score .now)
-sizes-are c = head-read (c .before .before .before .before .before .before .before .before .before .args .score .now) (c .before .word-at .ensures) (c .sizes-of .ensures)
+abbrev to-form : tie.After-enum-told2 → tie.After-form-of
+to-form c = c .before .before
 
-form-is : (c : tie.After-form-of) → let b = c .before .before .before .before .before .before .before .before .before .before in
+abbrev to-good : tie.After-check-list-arg → tie.After-enum-told2
+to-good c = c .before .before .before .before .before
+
+accepted : (c : tie.Else1) → numberOf (verdict (to-start (c .before) .args .score .now)) ≡ 0
+accepted c = stages.accepted (to-start (c .before) .args .score .now) (c .before .number-of .ensures) (c .before .before .check .ensures) (c .if1 .left)
+
+playable : (c : tie.Else1) → Playable (to-start (c .before) .args .score .now)
+playable c = stages.playable (to-start (c .before) .args .score .now) (accepted c)
+
+sizes-are : (c : tie.After-sizes-of) → c .sizes-of .result ≡ sizes (to-start (c .before .before .before .before) .args .score .now)
+sizes-are c = head-read (to-start (c .before .before .before .before) .args .score .now) (c .before .word-at .ensures) (c .sizes-of .ensures)
+
+form-is : (c : tie.After-form-of) → let b = to-start (to-lengths c .before .before) in
     formOf true (sizes (b .args .score .now) .tokens) (b .args .journal .now) ≡ c .form-of .result
 form-is c =
-    let b = c .before .before .before .before .before .before .before .before .before .before in
+    let b = to-start (to-lengths c .before .before) in
     sym (by-head (λ h. formOf true (h .tokens) (b .args .journal .now)) (sizes-are (c .before)) (c .form-of .ensures))
 
 check-requires : tie.Need-check-requires
@@ -38,12 +51,12 @@ number-of-requires c κs = search needs
 
 returns : tie.Need-returns
 returns c =
-    let b = c .before .before .before .before .before .before in
+    let b = to-start (c .before) in
     record { exits = turned (b .args .score .now) (b .args .journal .now) (b .args .scratch .now) (c .before .number-of .ensures) (c .before .before .check .ensures) (c .if1 .taken) }
 
 returns-2 : tie.Need-returns-2
 returns-2 c =
-    let b = c .before .before .before .before .before .before .before in
+    let b = to-start (c .before .before) in
     record { exits = lengths (b .args .score .now) (b .args .journal .now) (b .args .scratch .now) (accepted (c .before)) (c .if2 .taken) }
 
 word-at-requires : tie.Need-word-at-requires
@@ -68,27 +81,40 @@ clear-requires : tie.Need-clear-requires
 clear-requires c κs = search needs
 
 check-list-requires : tie.Need-check-list-requires
-check-list-requires c κs = (sizes-are (c .before .before .before .before .before .before .before .before), (playable (c .before .before .before .before .before .before .before .before .before .before .before), (form-is (c .before .before .before .before .before .before .before) ∙ c .before .before .before .before .before .enum-told2 .given .1, c .before .before .before .clear .ensures ∙ ap (λ k. replicate k 0) (c .before .before .before .before .before .before .before .before .before .before .if2 .left))))
+check-list-requires c κs =
+    let at-good = to-good c in
+    let at-form = to-form at-good in
+    let at-lengths = to-lengths at-form in
+    (sizes-are (at-form .before), (playable (at-lengths .before), (form-is at-form ∙ at-good .enum-told2 .given .1, c .before .before .before .clear .ensures ∙ ap (λ k. replicate k 0) (at-lengths .if2 .left))))
 
 returns-3 : tie.Need-returns-3
 returns-3 c =
-    let b = c .before .before .before .before .before .before .before .before .before .before .before .before in
-    record { exits = not-whole (b .args .score .now) (b .args .journal .now) (b .args .scratch .now) (accepted (c .before .before .before .before .before .before)) (c .before .before .before .before .before .if2 .left) (form-is (c .before .before) ∙ c .enum-told .given .1) }
+    let at-lengths = to-lengths (c .before .before) in
+    let at-score = at-lengths .before in
+    let b = to-start (at-score .before) in
+    record { exits = not-whole (b .args .score .now) (b .args .journal .now) (b .args .scratch .now) (accepted at-score) (at-lengths .if2 .left) (form-is (c .before .before) ∙ c .enum-told .given .1) }
 
 returns-4 : tie.Need-returns-4
 returns-4 c =
-    let b = c .before .before .before .before .before .before .before .before .before .before .before .before .before in
-    record { exits = against (b .args .score .now) (b .args .journal .now) (b .args .scratch .now) (accepted (c .before .before .before .before .before .before .before)) (c .before .before .before .before .before .before .if2 .left) _ (form-is (c .before .before .before) ∙ c .before .k .given .1) }
+    let at-form = c .before .before .before in
+    let at-lengths = to-lengths at-form in
+    let at-score = at-lengths .before in
+    let b = to-start (at-score .before) in
+    record { exits = against (b .args .score .now) (b .args .journal .now) (b .args .scratch .now) (accepted at-score) (at-lengths .if2 .left) _ (form-is at-form ∙ c .before .k .given .1) }
 
 same-length : tie.Need-same-length
 same-length c = search needs
 
 returns-5 : tie.Need-returns-5
 returns-5 c =
-    let b = c .before .before .before .before .before .before .before .before .before .before .before .before .before .before .before .before .before .before .before .before in
+    let at-good = to-good (c .before .before .before) in
+    let at-form = to-form at-good in
+    let at-lengths = to-lengths at-form in
+    let at-score = at-lengths .before in
+    let b = to-start (at-score .before) in
     record {
       exits =
-          read (b .args .score .now) (b .args .journal .now) (b .args .scratch .now) (accepted (c .before .before .before .before .before .before .before .before .before .before .before .before .before .before)) (c .before .before .before .before .before .before .before .before .before .before .before .before .before .if2 .left) (form-is (c .before .before .before .before .before .before .before .before .before .before) ∙ c .before .before .before .before .before .before .before .before .enum-told2 .given .1)
+          read (b .args .score .now) (b .args .journal .now) (b .args .scratch .now) (accepted at-score) (at-lengths .if2 .left) (form-is at-form ∙ at-good .enum-told2 .given .1)
           (c .before .before .check-list .ensures .1) (c .before .before .check-list .ensures .0);
     }
 

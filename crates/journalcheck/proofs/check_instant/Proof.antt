@@ -16,6 +16,13 @@ use Rattle.journalcheck.proofs.Holds.{held}
 use Rattle.journalcheck.proofs.check_instant.Statement.{statement}
 use Rattle.journalcheck.proofs.check_instant.Tie as tie
 
+-- Stations of the walk, each from a later place.
+abbrev to-start : tie.After-step-from-arg → tie.Start
+to-start c = c .before .before .before .before .before
+
+abbrev to-step : tie.After-out2 → tie.After-step-from
+to-step c = c .before .before .before .before .before
+
 out-long : (c : tie.After-step-from) → length (c .step-from .result .out) ≡ 256
 out-long c = search needs
 
@@ -27,7 +34,7 @@ tokens-in-requires c κs = search needs
 
 step-from-requires : tie.Need-step-from-requires
 step-from-requires c κs =
-    let b = c .before .before .before .before .before in
+    let b = to-start c in
     (b .pre .0, (b .pre .1 .0, (b .pre .1 .1 .0, (told-known (c .before), b .pre .1 .1 .1 .1))))
 
 slice-aggregate-differs-from : tie.Need-slice-aggregate-differs-from
@@ -35,19 +42,22 @@ slice-aggregate-differs-from c = search needs
 
 differs-from-requires : tie.Need-differs-from-requires
 differs-from-requires c κs =
-    let b = c .before .before .before .before .before .before .before .before .before .before .before in
-    let step = c .before .before .before .before .before in
+    let b = to-start (to-step c .before) in
+    let step = to-step c in
     let s = b .args .score .now in
     (formed-wide (sizes s .tokens) (sizes-few s .0) (b .pre .1 .1 .1 .0), (status-few s (b .pre .1 .0) (stateIn (b .args .standing)) (setOf (step .before .before .tokens-in .result)) (step .step-from .ensures .0), out-long step))
 
 same-length : tie.Need-same-length
-same-length c = ap length (c .before .before .before .before .before .before .step-from .ensures .1 ∙ sym (c .before .before .before .before .before .before .before .before .before .before .before .before .pre .1 .1 .1 .1))
+same-length c =
+    let at-step = to-step (c .before) in
+    ap length (at-step .step-from .ensures .1 ∙ sym (to-start (at-step .before) .pre .1 .1 .1 .1))
 
 returns : tie.Need-returns
 returns c =
-    let b = c .before .before .before .before .before .before .before .before .before .before .before .before in
-    let told = c .before .before .before .before .before .before .before .before .tokens-in in
-    let step = c .before .before .before .before .before .before .step-from in
+    let at-step = to-step (c .before) in
+    let b = to-start (at-step .before) in
+    let told = at-step .before .before .tokens-in in
+    let step = at-step .step-from in
     let s = b .args .score .now in (
       held s (b .pre .1 .0) (stateIn (b .args .standing)) (words (b .args .here .now)) (told .result) (told-set (sizes s .tokens) (sizes-few s .0) (told .ensures) (b .pre .1 .1 .1 .0 .inputs))
           (step .result) (step .ensures .0) _ refl (c .differs-from .ensures) refl,

@@ -15,7 +15,17 @@ Inv-loop score head journal scratch₀ stands₀ instants₀ at₀ scratch stand
 abbrev μ-loop : tie.MeasureT-loop
 μ-loop score head journal scratch₀ stands₀ instants₀ at₀ scratch stands instants at = length journal - at
 
-turn : (c : tie.After-part Inv-loop μ-loop) → let b = c .before .before .before .before .before .before .before in
+-- Stations of the walk, each from a later place.
+abbrev to-start : tie.At-loop Inv-loop μ-loop → tie.Start Inv-loop μ-loop
+to-start c = c .before .before .before .before .before
+
+abbrev to-part : tie.After-check-instant Inv-loop μ-loop → tie.After-part Inv-loop μ-loop
+to-part c = c .before .before
+
+abbrev to-check-instant : tie.After-struct-known Inv-loop μ-loop → tie.After-check-instant Inv-loop μ-loop
+to-check-instant c = c .before .before .before .before
+
+turn : (c : tie.After-part Inv-loop μ-loop) → let b = to-start (c .before .before) in
     Turn (b .args .score .now) (b .args .journal .now) (c .before .before .loop .stands) (c .before .before .loop .instants) (c .before .before .loop .at) (c .part .result .now)
 turn c = record { checking = c .before .before .loop .inv .0; not-end = c .before .loop-test .taken; is = c .part .ensures }
 
@@ -32,40 +42,50 @@ part-requires c κs = search needs
 
 check-instant-requires : tie.Need-check-instant-requires Inv-loop μ-loop
 check-instant-requires c κs =
-    let b = c .before .before .before .before .before .before .before .before in
-    (b .pre .0, (b .pre .1 .0, (c .before .before .before .loop .inv .0 .lawful, (first-formed (turn (c .before)), c .before .before .before .loop .inv .1))))
+    let at-part = c .before in
+    let b = to-start (at-part .before .before) in
+    (b .pre .0, (b .pre .1 .0, (at-part .before .before .loop .inv .0 .lawful, (first-formed (turn (c .before)), at-part .before .before .loop .inv .1))))
 
 same-length : tie.Need-same-length Inv-loop μ-loop
-same-length c = ap length (c .before .before .before .check-instant .ensures .1 ∙ sym (c .before .before .before .before .before .before .before .before .before .before .before .before .pre .1 .1 .1))
+same-length c =
+    let at-check-instant = c .before .before .before in
+    ap length (at-check-instant .check-instant .ensures .1 ∙ sym (to-start (to-part at-check-instant .before .before) .pre .1 .1 .1))
 
 returns : tie.Need-returns Inv-loop μ-loop
-returns c = let h = c .before .before .before .check-instant in (checking-unlawful (turn (c .before .before .before .before .before)) (h .result) (h .ensures .0) (c .if1 .taken), h .ensures .1)
+returns c =
+    let at-check-instant = c .before .before .before in
+    let h = at-check-instant .check-instant in (checking-unlawful (turn (to-part at-check-instant)) (h .result) (h .ensures .0) (c .if1 .taken), h .ensures .1)
 
 cast-if2 : tie.Need-cast-if2 Inv-loop μ-loop
 cast-if2 c = search needs
 
 same-length-2 : tie.Need-same-length-2 Inv-loop μ-loop
-same-length-2 c = ap length (c .before .before .before .before .before .check-instant .ensures .1 ∙ sym (c .before .before .before .before .before .before .before .before .before .before .before .before .before .before .pre .1 .1 .1))
+same-length-2 c =
+    let at-check-instant = to-check-instant (c .before) in
+    ap length (at-check-instant .check-instant .ensures .1 ∙ sym (to-start (to-part at-check-instant .before .before) .pre .1 .1 .1))
 
 returns-2 : tie.Need-returns-2 Inv-loop μ-loop
-returns-2 c = let h = c .before .before .before .before .before .check-instant in (checking-differs (turn (c .before .before .before .before .before .before .before)) (h .result) (h .ensures .0) (c .before .before .if1 .left) (c .if2 .taken), h .ensures .1)
+returns-2 c =
+    let at-check-instant = to-check-instant (c .before) in
+    let h = at-check-instant .check-instant in (checking-differs (turn (to-part at-check-instant)) (h .result) (h .ensures .0) (c .before .before .if1 .left) (c .if2 .taken), h .ensures .1)
 
 add-instants : tie.Need-add-instants Inv-loop μ-loop
-add-instants c = let t = turn (c .before .before .before .before .before .before .before .before) in omega (arith, t .checking .counted, t .not-end)
+add-instants c = let t = turn (to-part (to-check-instant (c .before .before))) in omega (arith, t .checking .counted, t .not-end)
 
 add-at : tie.Need-add-at Inv-loop μ-loop
-add-at c = omega (arith, next (turn (c .before .before .before .before .before .before .before .before)) .fits)
+add-at c = omega (arith, next (turn (to-part (to-check-instant (c .before .before)))) .fits)
 
 loop-less : tie.Need-loop-less Inv-loop μ-loop
-loop-less c = let t = turn (c .before .before .before .before .before .before .before .before) in omega (arith, next t .some, t .not-end)
+loop-less c = let t = turn (to-part (to-check-instant (c .before .before))) in omega (arith, next t .some, t .not-end)
 
 loop-again : tie.Need-loop-again Inv-loop μ-loop
 loop-again c =
-    let h = c .before .before .before .before .before .before .check-instant in
-    (checking-more (turn (c .before .before .before .before .before .before .before .before)) (h .result) (h .ensures .0) (c .before .before .before .if1 .left) (c .before .if2 .left), h .ensures .1)
+    let at-check-instant = to-check-instant (c .before .before) in
+    let h = at-check-instant .check-instant in
+    (checking-more (turn (to-part at-check-instant)) (h .result) (h .ensures .0) (c .before .before .before .if1 .left) (c .before .if2 .left), h .ensures .1)
 
 same-length-3 : tie.Need-same-length-3 Inv-loop μ-loop
-same-length-3 c = ap length (c .before .loop .inv .1 ∙ sym (c .before .before .before .before .before .before .pre .1 .1 .1))
+same-length-3 c = ap length (c .before .loop .inv .1 ∙ sym (to-start (c .before) .pre .1 .1 .1))
 
 returns-3 : tie.Need-returns-3 Inv-loop μ-loop
 returns-3 c = (checking-end (c .before .loop .inv .0) (c .loop-test .left), c .before .loop .inv .1)

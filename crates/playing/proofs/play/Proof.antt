@@ -5,6 +5,13 @@ use borrow.Author.Needs.{needs}
 use Rattle.playing.proofs.play.Statement.{statement}
 use Rattle.playing.proofs.play.Tie as tie
 
+-- Stations of the walk, each from a later place.
+abbrev to-start : tie.After-start → tie.Start
+to-start c = c .before .before .before .before
+
+abbrev to-standing : tie.After-number-in → tie.After-start
+to-standing c = c .before .before .before .before .before .before .before .before .before
+
 start-requires : tie.Need-start-requires
 start-requires c κs = search needs
 
@@ -25,9 +32,10 @@ same-length c = search needs
 
 returns : tie.Need-returns
 returns c =
-    let b = c .before .before .before .before .before .before .before .before .before .before .before .before .before in
+    let at-standing = to-standing c in
+    let b = to-start at-standing in
     let r = c .before .before .before .before .before .score-run in
-    played (b .args .score .now) (b .args .inputs .now) _ (b .args .journal .now) (c .before .before .before .before .before .before .before .before .before .start .ensures .1) (lent (r .last .1 .0) (r .last .1 .1 .1 .0) (r .last .1 .1 .1 .1 .0)) (r .result) (r .ensures) (c .number-in .ensures)
+    played (b .args .score .now) (b .args .inputs .now) _ (b .args .journal .now) (at-standing .start .ensures .1) (lent (r .last .1 .0) (r .last .1 .1 .1 .0) (r .last .1 .1 .1 .1 .0)) (r .result) (r .ensures) (c .number-in .ensures)
 
 pub play-spec : {M : Type 1} → statement M
 play-spec =

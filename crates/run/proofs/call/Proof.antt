@@ -17,29 +17,53 @@ use Rattle.run.proofs.RunExits.{turned, lengths, state, bytes, word, ru
 use Rattle.run.proofs.call.Statement.{statement}
 use Rattle.run.proofs.call.Tie as tie
 
+-- Stations of the walk, each from a later place.
+abbrev to-start : tie.After-number-of → tie.Start
+to-start c = c .before .before .before .before .before .before .before
+
+abbrev to-score : tie.Else2 → tie.Else1
+to-score c = c .before .before
+
+abbrev to-lengths : tie.After-sizes-of → tie.Else2
+to-lengths c = c .before .before
+
+abbrev to-sizes : tie.Else3 → tie.After-sizes-of
+to-sizes c = c .before .before .before
+
+abbrev to-form : tie.After-enum-told2 → tie.After-form-of
+to-form c = c .before .before
+
+abbrev to-good : tie.After-run-from-arg3 → tie.After-enum-told2
+to-good c = c .before .before .before .before .before .before .before
+
+abbrev to-run : tie.After-slice-known7 → tie.After-run-from
+to-run c = c .before .before .before .before .before .before
+
 abbrev buffers : tie.Start → Lent
 buffers b = lent (b .args .state .now) (b .args .journal .now) (b .args .scratch .now)
 
-accepted : (c : tie.Else1) → numberOf (verdict (c .before .before .before .before .before .before .before .before .args .score .now)) ≡ 0
-accepted c = stages.accepted (c .before .before .before .before .before .before .before .before .args .score .now) (c .before .number-of .ensures) (c .before .before .check .ensures) (c .if1 .left)
+accepted : (c : tie.Else1) → numberOf (verdict (to-start (c .before) .args .score .now)) ≡ 0
+accepted c = stages.accepted (to-start (c .before) .args .score .now) (c .before .number-of .ensures) (c .before .before .check .ensures) (c .if1 .left)
 
-long : (c : tie.Else2) → lengthFault (buffers (c .before .before .before .before .before .before .before .before .before .before)) ≡ false
+long : (c : tie.Else2) → lengthFault (buffers (to-start (to-score c .before))) ≡ false
 long c = sym (c .before .wrong-length .ensures) ∙ c .if2 .left
 
-playable : (c : tie.Else1) → Playable (c .before .before .before .before .before .before .before .before .args .score .now)
-playable c = stages.playable (c .before .before .before .before .before .before .before .before .args .score .now) (accepted c)
+playable : (c : tie.Else1) → Playable (to-start (c .before) .args .score .now)
+playable c = stages.playable (to-start (c .before) .args .score .now) (accepted c)
 
-sizes-are : (c : tie.After-sizes-of) → c .sizes-of .result ≡ sizes (c .before .before .before .before .before .before .before .before .before .before .before .before .args .score .now)
-sizes-are c = head-read (c .before .before .before .before .before .before .before .before .before .before .before .before .args .score .now) (c .before .word-at .ensures) (c .sizes-of .ensures)
+sizes-are : (c : tie.After-sizes-of) → c .sizes-of .result ≡ sizes (to-start (to-score (to-lengths c) .before) .args .score .now)
+sizes-are c = head-read (to-start (to-score (to-lengths c) .before) .args .score .now) (c .before .word-at .ensures) (c .sizes-of .ensures)
 
-fault-is : (c : tie.After-state-fault) → c .state-fault .result ≡ stateFault (sizes (c .before .before .before .before .before .before .before .before .before .before .before .before .before .before .args .score .now) .agents) (c .before .before .before .before .before .before .before .before .before .before .before .before .before .before .args .state .now)
-fault-is c = by-head (λ h. stateFault (h .agents) (c .before .before .before .before .before .before .before .before .before .before .before .before .before .before .args .state .now)) (sizes-are (c .before .before)) (c .state-fault .ensures)
+fault-is : (c : tie.After-state-fault) → let b = to-start (to-score (to-lengths (c .before .before)) .before) in c .state-fault .result ≡ stateFault (sizes (b .args .score .now) .agents) (b .args .state .now)
+fault-is c = by-head (λ h. stateFault (h .agents) (to-start (to-score (to-lengths (c .before .before)) .before) .args .state .now)) (sizes-are (c .before .before)) (c .state-fault .ensures)
 
-lawful : (c : tie.Else3) → stateFault (sizes (c .before .before .before .before .before .before .before .before .before .before .before .before .before .before .before .args .score .now) .agents) (c .before .before .before .before .before .before .before .before .before .before .before .before .before .before .before .args .state .now) ≡ false
+lawful : (c : tie.Else3) → let b = to-start (to-score (to-lengths (to-sizes c)) .before) in stateFault (sizes (b .args .score .now) .agents) (b .args .state .now) ≡ false
 lawful c = sym (fault-is (c .before)) ∙ c .if3 .left
 
-form-is : (c : tie.After-form-of) → c .form-of .result ≡ formOf false (sizes (c .before .before .before .before .before .before .before .before .before .before .before .before .before .before .before .before .args .score .now) .tokens) (c .before .before .before .before .before .before .before .before .before .before .before .before .before .before .before .before .args .inputs .now)
-form-is c = by-head (λ h. formOf false (h .tokens) (c .before .before .before .before .before .before .before .before .before .before .before .before .before .before .before .before .args .inputs .now)) (sizes-are (c .before .before .before .before)) (c .form-of .ensures)
+form-is : (c : tie.After-form-of) → let b = to-start (to-score (to-lengths (to-sizes (c .before))) .before) in c .form-of .result ≡ formOf false (sizes (b .args .score .now) .tokens) (b .args .inputs .now)
+form-is c =
+    let at-sizes = to-sizes (c .before) in
+    by-head (λ h. formOf false (h .tokens) (to-start (to-score (to-lengths at-sizes) .before) .args .inputs .now)) (sizes-are at-sizes) (c .form-of .ensures)
 
 check-requires : tie.Need-check-requires
 check-requires c κs = search needs
@@ -49,7 +73,7 @@ number-of-requires c κs = search needs
 
 returns : tie.Need-returns
 returns c =
-    let b = c .before .before .before .before .before .before .before .before in
+    let b = to-start (c .before) in
     record { exits = turned (b .args .score .now) (b .args .inputs .now) (buffers b) (c .before .number-of .ensures) (c .before .before .check .ensures) (c .if1 .taken) }
 
 wrong-length-requires : tie.Need-wrong-length-requires
@@ -57,7 +81,7 @@ wrong-length-requires c κs = search needs
 
 returns-2 : tie.Need-returns-2
 returns-2 c =
-    let b = c .before .before .before .before .before .before .before .before .before .before in
+    let b = to-start (c .before .before .before) in
     record { exits = lengths (b .args .score .now) (b .args .inputs .now) (buffers b) (accepted (c .before .before)) (sym (c .before .wrong-length .ensures) ∙ c .if2 .taken) }
 
 word-at-requires : tie.Need-word-at-requires
@@ -67,15 +91,19 @@ sizes-of-requires : tie.Need-sizes-of-requires
 sizes-of-requires c κs = search needs
 
 state-fault-requires : tie.Need-state-fault-requires
-state-fault-requires c κs = right-lengths (buffers (c .before .before .before .before .before .before .before .before .before .before .before .before .before)) (long (c .before .before .before)) .state-long
+state-fault-requires c κs =
+    let at-lengths = to-lengths (c .before) in
+    right-lengths (buffers (to-start (to-score at-lengths .before))) (long at-lengths) .state-long
 
 same-length : tie.Need-same-length
 same-length c = search needs
 
 returns-3 : tie.Need-returns-3
 returns-3 c =
-    let b = c .before .before .before .before .before .before .before .before .before .before .before .before .before .before .before in
-    record { exits = state (b .args .score .now) (b .args .inputs .now) (buffers b) (accepted (c .before .before .before .before .before .before .before)) (long (c .before .before .before .before .before)) (sym (fault-is (c .before)) ∙ c .if3 .taken) }
+    let at-lengths = to-lengths (c .before .before .before) in
+    let at-score = to-score at-lengths in
+    let b = to-start (at-score .before) in
+    record { exits = state (b .args .score .now) (b .args .inputs .now) (buffers b) (accepted at-score) (long at-lengths) (sym (fault-is (c .before)) ∙ c .if3 .taken) }
 
 form-of-requires : tie.Need-form-of-requires
 form-of-requires c κs = search needs
@@ -94,24 +122,37 @@ clear-requires c κs = search needs
 
 run-from-requires : tie.Need-run-from-requires
 run-from-requires c κs =
-    let l = right-lengths (buffers (c .before .before .before .before .before .before .before .before .before .before .before .before .before .before .before .before .before .before .before .before .before .before .before .before .before)) (long (c .before .before .before .before .before .before .before .before .before .before .before .before .before .before .before)) in
-    (sizes-are (c .before .before .before .before .before .before .before .before .before .before .before .before .before), (playable (c .before .before .before .before .before .before .before .before .before .before .before .before .before .before .before .before .before), (l .state-long, (lawful (c .before .before .before .before .before .before .before .before .before .before), (sym (form-is (c .before .before .before .before .before .before .before .before .before)) ∙ c .before .before .before .before .before .before .before .enum-told2 .given .1, c .before .before .before .before .before .clear .ensures ∙ ap (λ n. replicate n 0) (l .scratch-long))))))
+    let at-good = to-good c in
+    let at-form = to-form at-good in
+    let at-state = at-form .before in
+    let at-sizes = to-sizes at-state in
+    let at-lengths = to-lengths at-sizes in
+    let at-score = to-score at-lengths in
+    let l = right-lengths (buffers (to-start (at-score .before))) (long at-lengths) in
+    (sizes-are at-sizes, (playable at-score, (l .state-long, (lawful at-state, (sym (form-is at-form) ∙ at-good .enum-told2 .given .1, c .before .before .before .before .before .clear .ensures ∙ ap (λ n. replicate n 0) (l .scratch-long))))))
 
 same-length-2 : tie.Need-same-length-2
 same-length-2 c = search needs
 
 returns-4 : tie.Need-returns-4
 returns-4 c =
-    let b = c .before .before .before .before .before .before .before .before .before .before .before .before .before .before .before .before .before .before in
-    record { exits = bytes (b .args .score .now) (b .args .inputs .now) (buffers b) (accepted (c .before .before .before .before .before .before .before .before .before .before)) (long (c .before .before .before .before .before .before .before .before)) (lawful (c .before .before .before)) (sym (form-is (c .before .before)) ∙ c .enum-told .given .1) }
+    let at-state = c .before .before .before in
+    let at-lengths = to-lengths (to-sizes at-state) in
+    let at-score = to-score at-lengths in
+    let b = to-start (at-score .before) in
+    record { exits = bytes (b .args .score .now) (b .args .inputs .now) (buffers b) (accepted at-score) (long at-lengths) (lawful at-state) (sym (form-is (c .before .before)) ∙ c .enum-told .given .1) }
 
 same-length-3 : tie.Need-same-length-3
 same-length-3 c = search needs
 
 returns-5 : tie.Need-returns-5
 returns-5 c =
-    let b = c .before .before .before .before .before .before .before .before .before .before .before .before .before .before .before .before .before .before .before in
-    record { exits = word (b .args .score .now) (b .args .inputs .now) (buffers b) (accepted (c .before .before .before .before .before .before .before .before .before .before .before)) (long (c .before .before .before .before .before .before .before .before .before)) (lawful (c .before .before .before .before)) _ (sym (form-is (c .before .before .before)) ∙ c .before .k .given .1) }
+    let at-form = c .before .before .before in
+    let at-state = at-form .before in
+    let at-lengths = to-lengths (to-sizes at-state) in
+    let at-score = to-score at-lengths in
+    let b = to-start (at-score .before) in
+    record { exits = word (b .args .score .now) (b .args .inputs .now) (buffers b) (accepted at-score) (long at-lengths) (lawful at-state) _ (sym (form-is at-form) ∙ c .before .k .given .1) }
 
 same-length-4 : tie.Need-same-length-4
 same-length-4 c = search needs
@@ -124,11 +165,17 @@ same-length-6 c = search needs
 
 returns-6 : tie.Need-returns-6
 returns-6 c =
-    let b = c .before .before .before .before .before .before .before .before .before .before .before .before .before .before .before .before .before .before .before .before .before .before .before .before .before .before .before .before .before .before .before .before in
+    let at-run = to-run c in
+    let at-good = to-good (at-run .before) in
+    let at-form = to-form at-good in
+    let at-state = at-form .before in
+    let at-lengths = to-lengths (to-sizes at-state) in
+    let at-score = to-score at-lengths in
+    let b = to-start (at-score .before) in
     record {
       exits =
-          runs (b .args .score .now) (b .args .inputs .now) (buffers b) (accepted (c .before .before .before .before .before .before .before .before .before .before .before .before .before .before .before .before .before .before .before .before .before .before .before .before)) (long (c .before .before .before .before .before .before .before .before .before .before .before .before .before .before .before .before .before .before .before .before .before .before)) (lawful (c .before .before .before .before .before .before .before .before .before .before .before .before .before .before .before .before .before)) (sym (form-is (c .before .before .before .before .before .before .before .before .before .before .before .before .before .before .before .before)) ∙ c .before .before .before .before .before .before .before .before .before .before .before .before .before .before .enum-told2 .given .1) _ _ _ _
-          (c .before .before .before .before .before .before .run-from .ensures .1) (c .before .before .before .before .before .before .run-from .ensures .0);
+          runs (b .args .score .now) (b .args .inputs .now) (buffers b) (accepted at-score) (long at-lengths) (lawful at-state) (sym (form-is at-form) ∙ at-good .enum-told2 .given .1) _ _ _ _
+          (at-run .run-from .ensures .1) (at-run .run-from .ensures .0);
     }
 
 pub call-spec : {M : Type 1} → statement M

@@ -14,29 +14,43 @@ use borrow.Author.Needs.{needs}
 use Rattle.run.proofs.run_from.Statement.{statement}
 use Rattle.run.proofs.run_from.Tie as tie
 
+-- Stations of the walk, each from a later place.
+abbrev to-start : tie.After-standing-in → tie.Start
+to-start c = c .before .before .before .before .before .before .before
+
+abbrev to-standing : tie.After-run-list → tie.After-standing-in
+to-standing c = c .before .before .before .before .before
+
+abbrev to-run : tie.After-keep-arg → tie.After-run-list
+to-run c = c .before .before .before .before .before
+
 standing-in-requires : tie.Need-standing-in-requires
 standing-in-requires c κs = search needs
 
-stands : (c : tie.After-standing-in) → stateIn (c .standing-in .result) ≡ stateOf (c .before .before .before .before .before .before .before .args .state .now)
-stands c = ap stateIn (c .standing-in .ensures) ∙ standing-state (c .before .before .before .before .before .before .before .args .state .now)
+stands : (c : tie.After-standing-in) → stateIn (c .standing-in .result) ≡ stateOf (to-start c .args .state .now)
+stands c = ap stateIn (c .standing-in .ensures) ∙ standing-state (to-start c .args .state .now)
 
 -- the run, by its definition
-ran : (c : tie.After-run-list) → let b = c .before .before .before .before .before .before .before .before .before .before .before .before in
+ran : (c : tie.After-run-list) → let b = to-start (to-standing c) in
     RanTo (b .args .score .now) (b .args .state .now) (b .args .journal .now) (c .run-list .last .1 .1 .1 .1 .1 .0) (runFrom (b .args .score .now) (b .args .state .now) (length (b .args .journal .now)) (inputLists (b .args .inputs .now))) (c .run-list .result)
-ran c = c .run-list .ensures .0 (c .before .before .before .before .before .before .before .before .before .before .before .before .args .state .now) (sym (stands (c .before .before .before .before .before))) (sym (c .before .before .before .number-in .ensures))
+ran c =
+    let at-standing = to-standing c in
+    c .run-list .ensures .0 (to-start at-standing .args .state .now) (sym (stands at-standing)) (sym (c .before .before .before .number-in .ensures))
 
 number-in-requires : tie.Need-number-in-requires
 number-in-requires c κs = search needs
 
 run-list-requires : tie.Need-run-list-requires
 run-list-requires c κs =
-    let b = c .before .before .before .before .before .before .before .before .before .before .before in
-    (b .pre .0, (b .pre .1 .0, (subst⁻¹ (LawfulState (sizes (b .args .score .now) .agents)) (stands (c .before .before .before .before)) (faultless-lawful (sizes (b .args .score .now) .agents) (b .args .state .now) (b .pre .1 .1 .1 .0)), (b .pre .1 .1 .1 .1 .0, b .pre .1 .1 .1 .1 .1))))
+    let at-standing = c .before .before .before .before in
+    let b = to-start at-standing in
+    (b .pre .0, (b .pre .1 .0, (subst⁻¹ (LawfulState (sizes (b .args .score .now) .agents)) (stands at-standing) (faultless-lawful (sizes (b .args .score .now) .agents) (b .args .state .now) (b .pre .1 .1 .1 .0)), (b .pre .1 .1 .1 .1 .0, b .pre .1 .1 .1 .1 .1))))
 
 keep-requires : tie.Need-keep-requires
 keep-requires c κs =
-    let b = c .before .before .before .before .before .before .before .before .before .before .before .before .before .before .before .before .before in
-    (b .pre .1 .1 .0, subst⁻¹ (λ h. LawfulState (h .agents) (stateIn (c .before .before .before .before .before .run-list .result .standing))) (b .pre .0) (ran (c .before .before .before .before .before) .lawful))
+    let at-run = to-run c in
+    let b = to-start (to-standing at-run) in
+    (b .pre .1 .1 .0, subst⁻¹ (λ h. LawfulState (h .agents) (stateIn (at-run .run-list .result .standing))) (b .pre .0) (ran at-run .lawful))
 
 reply-of-requires : tie.Need-reply-of-requires
 reply-of-requires c κs = search needs
@@ -48,17 +62,20 @@ same-length-2 : tie.Need-same-length-2
 same-length-2 c = search needs
 
 same-length-3 : tie.Need-same-length-3
-same-length-3 c = ap length (c .before .before .before .before .before .before .before .before .before .run-list .ensures .1 ∙ sym (c .before .before .before .before .before .before .before .before .before .before .before .before .before .before .before .before .before .before .before .before .before .pre .1 .1 .1 .1 .1))
+same-length-3 c =
+    let at-run = to-run (c .before .before .before .before) in
+    ap length (at-run .run-list .ensures .1 ∙ sym (to-start (to-standing at-run) .pre .1 .1 .1 .1 .1))
 
 returns : tie.Need-returns
 returns c =
-    let r = ran (c .before .before .before .before .before .before .before .before .before) in (
+    let at-run = to-run (c .before .before .before .before) in
+    let r = ran at-run in (
       record {
         state-is = c .before .before .before .keep .ensures ∙ sym (r .state-is);
         journal-is = r .journal-is;
         reply-is = c .reply-of .ensures ∙ ap₂ ending (sym (r .stop-is)) (sym (r .instants-are));
       },
-      c .before .before .before .before .before .before .before .before .before .run-list .ensures .1,
+      at-run .run-list .ensures .1,
     )
 
 pub run-from-spec : {M : Type 1} → statement M

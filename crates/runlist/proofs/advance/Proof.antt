@@ -14,6 +14,16 @@ use Rattle.runlist.proofs.Took.{took, goes-not, not-goes, not-stopped}
 use Rattle.runlist.proofs.advance.Statement.{statement}
 use Rattle.runlist.proofs.advance.Tie as tie
 
+-- Stations of the walk, each from a later place.
+abbrev to-start : tie.After-step-from → tie.Start
+to-start c = c .before .before .before .before .before
+
+abbrev to-step : tie.After-out2 → tie.After-step-from
+to-step c = c .before .before .before .before .before .before
+
+abbrev to-size : tie.After-told2 → tie.After-size
+to-size c = c .before .before .before .before .before
+
 few : (c : tie.Start) → c .args .head .tokens ≤ 256
 few c = omega (arith, ap (λ h. h .tokens) (c .pre .0), decode-tokens (c .args .score .now), c .pre .1 .0 .lawful .most-tokens)
 
@@ -33,11 +43,11 @@ slice-aggregate-size-2 : tie.Need-slice-aggregate-size-2
 slice-aggregate-size-2 c = search needs
 
 -- what goes into the journal: no flag from T on
-flags-known : (c : tie.After-step-from) → let b = c .before .before .before .before .before in
+flags-known : (c : tie.After-step-from) → let b = to-start c in
     (c .step-from .result .status < 4)
     × (((i : ℕ) → b .args .head .tokens ≤ i → getD (b .args .t5) i false ≡ false) × ((i : ℕ) → b .args .head .tokens ≤ i → getD (c .step-from .result .out) i false ≡ false))
 flags-known c =
-    let b = c .before .before .before .before .before in
+    let b = to-start c in
     let s = b .args .score .now in
     let e = ap (λ h. h .tokens) (b .pre .0) in (
       omega (arith, status-few s (b .pre .1 .0) (stateIn (b .args .standing)) (setOf (b .args .t5)) (c .step-from .ensures .0)),
@@ -49,8 +59,8 @@ flags-known c =
 
 size-requires : tie.Need-size-requires
 size-requires c κs =
-    let b = c .before .before .before .before .before .before .before .before .before .before .before in
-    let step = c .before .before .before .before .before .before in
+    let b = to-start (to-step c) in
+    let step = to-step c in
     (few b, (omega (arith, few b, told-long b), (omega (arith, few b, out-long step), flags-known step .1)))
 
 stop-by-requires : tie.Need-stop-by-requires
@@ -60,48 +70,59 @@ goes-on-requires : tie.Need-goes-on-requires
 goes-on-requires c κs = search needs
 
 -- the instant is written if its words fit
-fits : (c : tie.Then1) → c .before .before .before .size .result ≤ length (c .before .before .before .before .before .before .before .before .before .before .before .before .before .before .before .args .journal .now)
-fits c = not-stopped (c .before .before .before .before .before .before .before .before .before .before .step-from .result .unlawful) (c .before .before .before .before .before .before .before .before .before .before .before .before .before .before .before .args .last) _ _ (ap goesOn (sym (c .before .before .stop-by .ensures)) ∙ sym (c .before .goes-on .ensures) ∙ c .if1 .taken) .1
+fits : (c : tie.Then1) → c .before .before .before .size .result ≤ length (to-start (to-step (c .before .before .before .before)) .args .journal .now)
+fits c =
+    let at-step = to-step (c .before .before .before .before) in
+    not-stopped (at-step .step-from .result .unlawful) (to-start at-step .args .last) _ _ (ap goesOn (sym (c .before .before .stop-by .ensures)) ∙ sym (c .before .goes-on .ensures) ∙ c .if1 .taken) .1
 
 slice-aggregate-write : tie.Need-slice-aggregate-write
-slice-aggregate-write c = let long = told-long (c .before .before .before .before .before .before .before .before .before .before .before .before .before .before .before .before .before) in search needs
+slice-aggregate-write c = let long = told-long (to-start (to-step (to-size c .before))) in search needs
 
 slice-aggregate-write-2 : tie.Need-slice-aggregate-write-2
 slice-aggregate-write-2 c = search needs
 
 write-requires : tie.Need-write-requires
 write-requires c κs =
-    let b = c .before .before .before .before .before .before .before .before .before .before .before .before .before .before .before .before .before .before in
-    let step = c .before .before .before .before .before .before .before .before .before .before .before .before .before in
+    let at-size = to-size (c .before) in
+    let b = to-start (to-step (at-size .before)) in
+    let step = to-step (at-size .before) in
     let k = flags-known step in
-    (k .0, (few b, (omega (arith, few b, told-long b), (omega (arith, few b, out-long step), (k .1 .0, (k .1 .1, omega (arith, fits (c .before .before .before), c .before .before .before .before .before .before .size .ensures .0 (step .step-from .result .status))))))))
+    (k .0, (few b, (omega (arith, few b, told-long b), (omega (arith, few b, out-long step), (k .1 .0, (k .1 .1, omega (arith, fits (c .before .before .before), at-size .size .ensures .0 (step .step-from .result .status))))))))
 
 same-length : tie.Need-same-length
 same-length c = search needs
 
 same-length-2 : tie.Need-same-length-2
-same-length-2 c = ap length (c .before .before .before .before .before .before .before .before .before .before .before .before .before .before .before .before .step-from .ensures .1 ∙ sym (c .before .before .before .before .before .before .before .before .before .before .before .before .before .before .before .before .before .before .before .before .before .pre .1 .1 .1 .1))
+same-length-2 c =
+    let at-step = to-step (to-size (c .before .before .before .before) .before) in
+    ap length (at-step .step-from .ensures .1 ∙ sym (to-start at-step .pre .1 .1 .1 .1))
 
 returns : tie.Need-returns
 returns c =
-    let b = c .before .before .before .before .before .before .before .before .before .before .before .before .before .before .before .before .before .before .before .before .before in
-    let step = c .before .before .before .before .before .before .before .before .before .before .before .before .before .before .before .before .step-from in (
+    let at-size = to-size (c .before .before .before .before) in
+    let at-step = to-step (at-size .before) in
+    let b = to-start at-step in
+    let step = at-step .step-from in (
       took (b .args .score .now) (b .pre .1 .0) (stateIn (b .args .standing)) (setOf (b .args .t5)) (step .result) (step .ensures .0)
-          (b .args .last) _ _ _ (c .before .before .before .before .before .before .before .before .before .size .ensures .0 (step .result .status)) (c .before .before .before .before .before .before .before .before .stop-by .ensures) refl
+          (b .args .last) _ _ _ (at-size .size .ensures .0 (step .result .status)) (c .before .before .before .before .before .before .before .before .stop-by .ensures) refl
           (λ q. c .before .before .write .ensures)
           (λ n. absurd (n (goes-not _ (sym (c .before .before .before .before .before .before .before .goes-on .ensures) ∙ c .before .before .before .before .before .before .if1 .taken)))),
       step .ensures .1,
     )
 
 same-length-3 : tie.Need-same-length-3
-same-length-3 c = ap length (c .before .before .before .before .before .before .before .before .before .before .step-from .ensures .1 ∙ sym (c .before .before .before .before .before .before .before .before .before .before .before .before .before .before .before .pre .1 .1 .1 .1))
+same-length-3 c =
+    let at-step = to-step (c .before .before .before .before) in
+    ap length (at-step .step-from .ensures .1 ∙ sym (to-start at-step .pre .1 .1 .1 .1))
 
 returns-2 : tie.Need-returns-2
 returns-2 c =
-    let b = c .before .before .before .before .before .before .before .before .before .before .before .before .before .before .before in
-    let step = c .before .before .before .before .before .before .before .before .before .before .step-from in (
+    let at-size = c .before .before .before in
+    let at-step = to-step (at-size .before) in
+    let b = to-start at-step in
+    let step = at-step .step-from in (
       took (b .args .score .now) (b .pre .1 .0) (stateIn (b .args .standing)) (setOf (b .args .t5)) (step .result) (step .ensures .0)
-          (b .args .last) _ _ _ (c .before .before .before .size .ensures .0 (step .result .status)) (c .before .before .stop-by .ensures) refl
+          (b .args .last) _ _ _ (at-size .size .ensures .0 (step .result .status)) (c .before .before .stop-by .ensures) refl
           (λ q. absurd (not-goes (sym (c .before .goes-on .ensures) ∙ c .if1 .left) q))
           (λ n. refl),
       step .ensures .1,

@@ -37,6 +37,19 @@ Inv-loop score head number inputs journal₀ scratch₀ stands₀ reached₀ ins
 abbrev μ-loop : tie.MeasureT-loop
 μ-loop score head number inputs journal₀ scratch₀ stands₀ reached₀ instants₀ at₀ filled₀ journal scratch stands reached instants at filled = length inputs - at
 
+-- Stations of the walk, each from a later place.
+abbrev to-start : tie.At-loop Inv-loop μ-loop → tie.Start Inv-loop μ-loop
+to-start c = c .before .before .before .before .before
+
+abbrev to-loop : tie.After-tokens-in Inv-loop μ-loop → tie.At-loop Inv-loop μ-loop
+to-loop c = c .before .before .before
+
+abbrev to-tokens : tie.After-advance Inv-loop μ-loop → tie.After-tokens-in Inv-loop μ-loop
+to-tokens c = c .before .before .before
+
+abbrev to-advance : tie.After-goes-on Inv-loop μ-loop → tie.After-advance Inv-loop μ-loop
+to-advance c = c .before .before .before .before .before
+
 loop-holds : tie.Need-loop-holds Inv-loop μ-loop
 loop-holds c =
     let b = c .before .before .before .before in
@@ -64,73 +77,100 @@ few : (c : tie.Start Inv-loop μ-loop) → sizes (c .args .score .now) .tokens �
 few c = omega (arith, decode-tokens (c .args .score .now), c .pre .1 .0 .lawful .most-tokens)
 
 -- the instant that is read
-next-at : (c : tie.After-tokens-in Inv-loop μ-loop) → Next (sizes (c .before .before .before .before .before .before .before .before .args .score .now) .tokens) (c .before .before .before .before .before .before .before .before .args .inputs .now) (c .before .before .before .loop .at) (c .before .part .result .now)
+next-at : (c : tie.After-tokens-in Inv-loop μ-loop) → let b = to-start (to-loop c) in Next (sizes (b .args .score .now) .tokens) (b .args .inputs .now) (to-loop c .loop .at) (c .before .part .result .now)
 next-at c =
-    let b = c .before .before .before .before .before .before .before .before in
-    subst (Next (sizes (b .args .score .now) .tokens) (b .args .inputs .now) (c .before .before .before .loop .at)) (sym (c .before .part .ensures))
-    (reading-next (sizes (b .args .score .now) .tokens) (b .args .inputs .now) (c .before .before .before .loop .at) (c .before .before .before .loop .inv .0) (omega arith))
+    let at-loop = to-loop c in
+    let b = to-start at-loop in
+    subst (Next (sizes (b .args .score .now) .tokens) (b .args .inputs .now) (at-loop .loop .at)) (sym (c .before .part .ensures))
+    (reading-next (sizes (b .args .score .now) .tokens) (b .args .inputs .now) (at-loop .loop .at) (at-loop .loop .inv .0) (omega arith))
 
 told-is : (c : tie.After-tokens-in Inv-loop μ-loop) → setOf (c .tokens-in .result) ≡ inputsIn (words (c .before .part .result .now))
-told-is c = from.told-set (sizes (c .before .before .before .before .before .before .before .before .args .score .now) .tokens) (few (c .before .before .before .before .before .before .before .before)) (c .tokens-in .ensures) (next-at c .told)
+told-is c =
+    let b = to-start (to-loop c) in
+    from.told-set (sizes (b .args .score .now) .tokens) (few b) (c .tokens-in .ensures) (next-at c .told)
 
-told-known : (c : tie.After-tokens-in Inv-loop μ-loop) (t : ℕ) → sizes (c .before .before .before .before .before .before .before .before .args .score .now) .tokens ≤ t → getD (c .tokens-in .result) t false ≡ false
-told-known c = from.told-known (sizes (c .before .before .before .before .before .before .before .before .args .score .now) .tokens) (few (c .before .before .before .before .before .before .before .before)) (c .tokens-in .ensures) (next-at c .told)
+told-known : (c : tie.After-tokens-in Inv-loop μ-loop) (t : ℕ) → sizes (to-start (to-loop c) .args .score .now) .tokens ≤ t → getD (c .tokens-in .result) t false ≡ false
+told-known c =
+    let b = to-start (to-loop c) in
+    from.told-known (sizes (b .args .score .now) .tokens) (few b) (c .tokens-in .ensures) (next-at c .told)
 
 advance-requires : tie.Need-advance-requires Inv-loop μ-loop
 advance-requires c κs =
-    let b = c .before .before .before .before .before .before .before .before .before .before in
-    (b .pre .0, (b .pre .1 .0, (c .before .before .before .before .before .loop .inv .1 .0, (told-known (c .before .before), c .before .before .before .before .before .loop .inv .1 .1 .1 .1 .1 .1))))
+    let at-loop = to-loop (c .before .before) in
+    let b = to-start at-loop in
+    (b .pre .0, (b .pre .1 .0, (at-loop .loop .inv .1 .0, (told-known (c .before .before), at-loop .loop .inv .1 .1 .1 .1 .1 .1))))
 
-lists-at : (c : tie.After-advance Inv-loop μ-loop) → inputLists (drop (c .before .before .before .before .before .before .loop .at) (c .before .before .before .before .before .before .before .before .before .before .before .args .inputs .now))
-    ≡ setOf (c .before .before .before .tokens-in .result) ∷ inputLists (drop (c .before .before .before .before .before .before .loop .at + length (c .before .before .before .before .part .result .now)) (c .before .before .before .before .before .before .before .before .before .before .before .args .inputs .now))
-lists-at c = next-at (c .before .before .before) .lists ∙ ap (λ l. l ∷ inputLists (drop (c .before .before .before .before .before .before .loop .at + length (c .before .before .before .before .part .result .now)) (c .before .before .before .before .before .before .before .before .before .before .before .args .inputs .now))) (sym (told-is (c .before .before .before)))
+lists-at : (c : tie.After-advance Inv-loop μ-loop) → let at-loop = to-loop (to-tokens c) in let b = to-start at-loop in inputLists (drop (at-loop .loop .at) (b .args .inputs .now))
+    ≡ setOf (to-tokens c .tokens-in .result) ∷ inputLists (drop (at-loop .loop .at + length (to-tokens c .before .part .result .now)) (b .args .inputs .now))
+lists-at c =
+    let at-tokens = to-tokens c in
+    let at-loop = to-loop at-tokens in
+    next-at at-tokens .lists ∙ ap (λ l. l ∷ inputLists (drop (at-loop .loop .at + length (at-tokens .before .part .result .now)) (to-start at-loop .args .inputs .now))) (sym (told-is at-tokens))
 
-room-long : (c : tie.After-advance Inv-loop μ-loop) → length (take (length (c .before .before .before .before .before .before .loop .journal) - c .before .before .before .before .before .before .loop .filled) (drop (c .before .before .before .before .before .before .loop .filled) (c .before .before .before .before .before .before .loop .journal))) ≡ length (c .before .before .before .before .before .before .before .before .before .before .before .args .journal .now) - c .before .before .before .before .before .before .loop .filled
-room-long c = ap length (room-is (c .before .before .before .before .before .before .loop .journal) (c .before .before .before .before .before .before .loop .filled)) ∙ length-drop (c .before .before .before .before .before .before .loop .filled) (c .before .before .before .before .before .before .loop .journal) ∙ ap (λ n. n - c .before .before .before .before .before .before .loop .filled) (c .before .before .before .before .before .before .loop .inv .1 .1 .0)
+room-long : (c : tie.After-advance Inv-loop μ-loop) → let at-loop = to-loop (to-tokens c) in length (take (length (at-loop .loop .journal) - at-loop .loop .filled) (drop (at-loop .loop .filled) (at-loop .loop .journal))) ≡ length (to-start at-loop .args .journal .now) - at-loop .loop .filled
+room-long c =
+    let at-loop = to-loop (to-tokens c) in
+    ap length (room-is (at-loop .loop .journal) (at-loop .loop .filled)) ∙ length-drop (at-loop .loop .filled) (at-loop .loop .journal) ∙ ap (λ n. n - at-loop .loop .filled) (at-loop .loop .inv .1 .1 .0)
 
-after-round : (c : tie.After-advance Inv-loop μ-loop) → let a = answer (decode (c .before .before .before .before .before .before .before .before .before .before .before .args .score .now)) (stateIn (c .before .before .before .before .before .before .loop .stands)) (setOf (c .before .before .before .tokens-in .result)) in SameState (stateOf (asBytes (after a))) (after a)
+after-round : (c : tie.After-advance Inv-loop μ-loop) → let at-loop = to-loop (to-tokens c) in let a = answer (decode (to-start at-loop .args .score .now)) (stateIn (at-loop .loop .stands)) (setOf (to-tokens c .tokens-in .result)) in SameState (stateOf (asBytes (after a))) (after a)
 after-round c =
-    let b = c .before .before .before .before .before .before .before .before .before .before .before in
+    let at-tokens = to-tokens c in
+    let at-loop = to-loop at-tokens in
+    let b = to-start at-loop in
     let s = b .args .score .now in
-    state-round _ (after-lawful (decode s) _ 1024 (b .pre .1 .0 .lawful .most-agents) (inside s (b .pre .1 .0) (stateIn (c .before .before .before .before .before .before .loop .stands)) (c .before .before .before .before .before .before .loop .inv .1 .0) (c .before .before .before .tokens-in .result) (told-known (c .before .before .before))))
+    state-round _ (after-lawful (decode s) _ 1024 (b .pre .1 .0 .lawful .most-agents) (inside s (b .pre .1 .0) (stateIn (at-loop .loop .stands)) (at-loop .loop .inv .1 .0) (at-tokens .tokens-in .result) (told-known at-tokens)))
 
 goes-on-requires : tie.Need-goes-on-requires Inv-loop μ-loop
 goes-on-requires c κs = search needs
 
-fits-at : (c : tie.Then1 Inv-loop μ-loop) → c .before .before .before .before .before .before .before .before .before .before .before .before .loop .filled + c .before .before .before .before .before .before .advance .result .bytes ≤ length (c .before .before .before .before .before .before .before .before .before .before .before .before .before .before .before .before .before .args .journal .now)
-fits-at c = omega (arith, took-fits (c .before .before .before .before .before .before .advance .ensures .0) (sym (c .before .goes-on .ensures) ∙ c .if1 .taken) .1, room-long (c .before .before .before .before .before .before), c .before .before .before .before .before .before .before .before .before .before .before .before .loop .inv .1 .1 .0, c .before .before .before .before .before .before .before .before .before .before .before .before .loop .inv .1 .1 .1 .0)
+fits-at : (c : tie.Then1 Inv-loop μ-loop) → let at-advance = to-advance (c .before) in let at-loop = to-loop (to-tokens at-advance) in at-loop .loop .filled + at-advance .advance .result .bytes ≤ length (to-start at-loop .args .journal .now)
+fits-at c =
+    let at-advance = to-advance (c .before) in
+    let at-loop = to-loop (to-tokens at-advance) in
+    omega (arith, took-fits (at-advance .advance .ensures .0) (sym (c .before .goes-on .ensures) ∙ c .if1 .taken) .1, room-long at-advance, at-loop .loop .inv .1 .1 .0, at-loop .loop .inv .1 .1 .1 .0)
 
 -- an instant that is written is not wanted at the last number
-below-last : (c : tie.Then1 Inv-loop μ-loop) → c .before .before .before .before .before .before .before .before .before .before .before .before .loop .reached < lastNumber
+below-last : (c : tie.Then1 Inv-loop μ-loop) → to-loop (to-tokens (to-advance (c .before))) .loop .reached < lastNumber
 below-last c =
-    let l = c .before .before .before .before .before .before .before .before .before .before .before .before .loop in
-    let n : l .reached ≡ lastNumber → ⊥ = eqb-false (l .reached) lastNumber (took-fits (c .before .before .before .before .before .before .advance .ensures .0) (sym (c .before .goes-on .ensures) ∙ c .if1 .taken) .0) in
+    let at-advance = to-advance (c .before) in
+    let l = to-loop (to-tokens at-advance) .loop in
+    let n : l .reached ≡ lastNumber → ⊥ = eqb-false (l .reached) lastNumber (took-fits (at-advance .advance .ensures .0) (sym (c .before .goes-on .ensures) ∙ c .if1 .taken) .0) in
     omega (arith, l .inv .1 .1 .1 .1 .0 .1)
 
 add-reached : tie.Need-add-reached Inv-loop μ-loop
 add-reached c = omega (arith, below-last (c .before))
 
 add-instants : tie.Need-add-instants Inv-loop μ-loop
-add-instants c = omega (arith, next-at (c .before .before .before .before .before .before .before .before .before .before) .some, next-at (c .before .before .before .before .before .before .before .before .before .before) .fits, c .before .before .before .before .before .before .before .before .before .before .before .before .before .loop .inv .1 .1 .1 .1 .0 .0, c .before .before .before .before .before .before .before .before .before .before .before .before .before .before .before .before .before .before .good .1 .1 .1 .1 .0 .0)
+add-instants c =
+    let at-tokens = to-tokens (to-advance (c .before .before)) in
+    let at-loop = to-loop at-tokens in
+    omega (arith, next-at at-tokens .some, next-at at-tokens .fits, at-loop .loop .inv .1 .1 .1 .1 .0 .0, to-start at-loop .good .1 .1 .1 .1 .0 .0)
 
 add-at : tie.Need-add-at Inv-loop μ-loop
-add-at c = omega (arith, next-at (c .before .before .before .before .before .before .before .before .before .before) .fits, c .before .before .before .before .before .before .before .before .before .before .before .before .before .before .before .before .before .before .good .1 .1 .1 .1 .0 .0)
+add-at c =
+    let at-tokens = to-tokens (to-advance (c .before .before)) in
+    omega (arith, next-at at-tokens .fits, to-start (to-loop at-tokens) .good .1 .1 .1 .1 .0 .0)
 
 add-filled : tie.Need-add-filled Inv-loop μ-loop
-add-filled c = omega (arith, fits-at (c .before .before), c .before .before .before .before .before .before .before .before .before .before .before .before .before .before .before .before .before .before .before .good .1 .1 .1 .1 .1 .0)
+add-filled c = omega (arith, fits-at (c .before .before), to-start (to-loop (to-tokens (to-advance (c .before .before .before)))) .good .1 .1 .1 .1 .1 .0)
 
 loop-less : tie.Need-loop-less Inv-loop μ-loop
-loop-less c = omega (arith, next-at (c .before .before .before .before .before .before .before .before .before .before .before) .some, next-at (c .before .before .before .before .before .before .before .before .before .before .before) .fits)
+loop-less c =
+    let at-tokens = to-tokens (to-advance (c .before .before .before)) in
+    omega (arith, next-at at-tokens .some, next-at at-tokens .fits)
 
 loop-again : tie.Need-loop-again Inv-loop μ-loop
 loop-again c =
-    let b = c .before .before .before .before .before .before .before .before .before .before .before .before .before .before .before .before .before .before .before in
-    let l = c .before .before .before .before .before .before .before .before .before .before .before .before .before .before .loop in
+    let at-advance = to-advance (c .before .before .before) in
+    let at-tokens = to-tokens at-advance in
+    let at-loop = to-loop at-tokens in
+    let b = to-start at-loop in
+    let l = at-loop .loop in
     let s = b .args .score .now in
-    let t = c .before .before .before .before .before .before .before .before .advance in
+    let t = at-advance .advance in
     let goes : goesOn (t .result .stop) ≡ true = sym (c .before .before .before .goes-on .ensures) ∙ c .before .before .if1 .taken in
     let long : length (putMid (l .filled) (length (l .journal) - l .filled) (l .journal) (t .last .1 .1 .1 .1 .1 .0)) ≡ length (l .journal) = same-len-mid (l .filled) (length (l .journal) - l .filled) (l .journal) (t .last .1 .1 .1 .1 .1 .0) (t .kept .1 .1 .1 .1 .1 .0) in (
-      next-at (c .before .before .before .before .before .before .before .before .before .before .before) .follows,
+      next-at at-tokens .follows,
       (
         t .ensures .0 .lawful,
         (
@@ -138,14 +178,14 @@ loop-again c =
           (
             omega (arith, fits-at (c .before .before), long, l .inv .1 .1 .0),
             (
-              (omega (arith, next-at (c .before .before .before .before .before .before .before .before .before .before .before) .some, l .inv .1 .1 .1 .1 .0 .0), omega (arith, below-last (c .before .before))),
+              (omega (arith, next-at at-tokens .some, l .inv .1 .1 .1 .1 .0 .0), omega (arith, below-last (c .before .before))),
               (
                 λ s₀ e m.
-                    subst (λ j. Half s (b .args .inputs .now) s₀ (b .args .journal .now) j (t .result .standing) (l .reached + 1) (l .instants + 1) (l .at + length (c .before .before .before .before .before .before .before .before .before .before .before .before .part .result .now)) (l .filled + t .result .bytes))
+                    subst (λ j. Half s (b .args .inputs .now) s₀ (b .args .journal .now) j (t .result .standing) (l .reached + 1) (l .instants + 1) (l .at + length (at-tokens .before .part .result .now)) (l .filled + t .result .bytes))
                     (sym (put-back (l .journal) _ (l .filled) (l .inv .1 .1 .1 .0)))
                     (half-more s (b .args .inputs .now) s₀ (b .args .journal .now) (l .journal) (l .stands) (l .reached) (l .instants) (l .at) (l .filled) (l .inv .1 .1 .1 .1 .1 .0 s₀ e m)
-                    (setOf (c .before .before .before .before .before .before .before .before .before .before .before .tokens-in .result)) (drop (l .at + length (c .before .before .before .before .before .before .before .before .before .before .before .before .part .result .now)) (b .args .inputs .now)) (lists-at (c .before .before .before .before .before .before .before .before)) _ (room-long (c .before .before .before .before .before .before .before .before)) _ (t .result) (t .ensures .0)
-                    (room-is (l .journal) (l .filled)) (goes-not _ goes) (l .at + length (c .before .before .before .before .before .before .before .before .before .before .before .before .part .result .now)) refl (after-round (c .before .before .before .before .before .before .before .before)) (below-last (c .before .before))),
+                    (setOf (at-tokens .tokens-in .result)) (drop (l .at + length (at-tokens .before .part .result .now)) (b .args .inputs .now)) (lists-at at-advance) _ (room-long at-advance) _ (t .result) (t .ensures .0)
+                    (room-is (l .journal) (l .filled)) (goes-not _ goes) (l .at + length (at-tokens .before .part .result .now)) refl (after-round at-advance) (below-last (c .before .before))),
                 t .ensures .1,
               ),
             ),
@@ -158,18 +198,23 @@ same-length : tie.Need-same-length Inv-loop μ-loop
 same-length c = search needs
 
 same-length-2 : tie.Need-same-length-2 Inv-loop μ-loop
-same-length-2 c = ap length (c .before .before .before .before .before .before .advance .ensures .1 ∙ sym (c .before .before .before .before .before .before .before .before .before .before .before .before .before .before .before .before .before .pre .1 .1 .1 .1))
+same-length-2 c =
+    let at-advance = to-advance (c .before) in
+    ap length (at-advance .advance .ensures .1 ∙ sym (to-start (to-loop (to-tokens at-advance)) .pre .1 .1 .1 .1))
 
 returns : tie.Need-returns Inv-loop μ-loop
 returns c =
-    let b = c .before .before .before .before .before .before .before .before .before .before .before .before .before .before .before .before .before in
-    let l = c .before .before .before .before .before .before .before .before .before .before .before .before .loop in
+    let at-advance = to-advance (c .before) in
+    let at-tokens = to-tokens at-advance in
+    let at-loop = to-loop at-tokens in
+    let b = to-start at-loop in
+    let l = at-loop .loop in
     let s = b .args .score .now in
-    let t = c .before .before .before .before .before .before .advance in (
+    let t = at-advance .advance in (
       λ s₀ e m. subst (λ j. RanTo s s₀ (b .args .journal .now) j (runFrom s s₀ (length (b .args .journal .now)) (inputLists (b .args .inputs .now))) (record { stop = t .result .stop; instants = l .instants; standing = l .stands; number = l .reached }))
           (sym (put-back (l .journal) _ (l .filled) (l .inv .1 .1 .1 .0)))
           (half-stopped s (b .args .inputs .now) s₀ (b .args .journal .now) (l .journal) (l .stands) (l .reached) (l .instants) (l .at) (l .filled) (l .inv .1 .1 .1 .1 .1 .0 s₀ e m)
-          (setOf (c .before .before .before .before .before .before .before .before .before .tokens-in .result)) (drop (l .at + length (c .before .before .before .before .before .before .before .before .before .before .part .result .now)) (b .args .inputs .now)) (lists-at (c .before .before .before .before .before .before)) _ (room-long (c .before .before .before .before .before .before)) _ (t .result) (t .ensures .0)
+          (setOf (at-tokens .tokens-in .result)) (drop (l .at + length (at-tokens .before .part .result .now)) (b .args .inputs .now)) (lists-at at-advance) _ (room-long at-advance) _ (t .result) (t .ensures .0)
           (room-is (l .journal) (l .filled)) (not-goes (sym (c .before .goes-on .ensures) ∙ c .if1 .left)) _ refl refl refl refl (l .inv .1 .0)),
       t .ensures .1,
     )
@@ -178,11 +223,11 @@ same-length-3 : tie.Need-same-length-3 Inv-loop μ-loop
 same-length-3 c = search needs
 
 same-length-4 : tie.Need-same-length-4 Inv-loop μ-loop
-same-length-4 c = ap length (c .before .loop .inv .1 .1 .1 .1 .1 .1 ∙ sym (c .before .before .before .before .before .before .pre .1 .1 .1 .1))
+same-length-4 c = ap length (c .before .loop .inv .1 .1 .1 .1 .1 .1 ∙ sym (to-start (c .before) .pre .1 .1 .1 .1))
 
 returns-2 : tie.Need-returns-2 Inv-loop μ-loop
 returns-2 c =
-    let b = c .before .before .before .before .before .before in
+    let b = to-start (c .before) in
     let l = c .before .loop in (
       λ s₀ e m. half-ended (b .args .score .now) (b .args .inputs .now) s₀ (b .args .journal .now) (l .journal) (l .stands) (l .reached) (l .instants) (l .at) (l .filled) (l .inv .1 .1 .1 .1 .1 .0 s₀ e m)
           _ refl refl refl refl (l .inv .1 .0) (reading-end (sizes (b .args .score .now) .tokens) (b .args .inputs .now) (l .at) (omega arith)),

@@ -20,6 +20,10 @@ Inv-loop fd buf₀ done₀ buf done = (done ≤ length buf) × (length buf ≡ l
 abbrev μ-loop : tie.MeasureT-loop
 μ-loop fd buf₀ done₀ buf done = length buf - done
 
+-- Stations of the walk, each from a later place.
+abbrev to-loop : tie.Then2 Inv-loop μ-loop → tie.At-loop Inv-loop μ-loop
+to-loop c = c .before .before .before .before .before .before .before .before .before .before
+
 loop-holds : tie.Need-loop-holds Inv-loop μ-loop
 loop-holds c = search needs
 
@@ -58,7 +62,7 @@ same-length-2 c = search needs
 
 returns-2 : tie.Need-returns-2 Inv-loop μ-loop
 returns-2 c =
-    let l = c .before .before .before .before .before .before .before .before .before .before .loop in
+    let l = to-loop c .loop in
     let r = c .before .before .before .before .before .before .before .read in
     counted _ (l .done) (omega (arith, l .inv .0, same-len-mid (l .done) (length (l .buf) - l .done) (l .buf) (r .last .1 .0) (r .kept .1 .0)))
 

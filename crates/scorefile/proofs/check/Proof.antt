@@ -20,6 +20,16 @@ use Rattle.scorefile.specs.Check.{verdict}
 use Rattle.scorefile.proofs.check.Statement.{statement}
 use Rattle.scorefile.proofs.check.Tie as tie
 
+-- Stations of the walk, each from a later place.
+abbrev to-start : tie.Else1 → tie.Start
+to-start c = c .before .before .before .before
+
+abbrev to-length : tie.Else2 → tie.Else1
+to-length c = c .before .before .before .before
+
+abbrev to-sizes : tie.Else3 → tie.After-sizes-of
+to-sizes c = c .before .before .before .before
+
 -- a verdict of the code, its number, and what the test of the number says of the definition's verdict
 accepts : {v w : Verdict} {n : ℕ} → v ≡ w → n ≡ numberOf v → n ≡ 0 → numberOf w ≡ 0
 accepts e k z = sym (ap numberOf e) ∙ sym k ∙ z
@@ -37,52 +47,55 @@ after-head s = orElse (countVerdict (sizes s) (length (words s))) (after-count s
 abbrev after-length : List ℕ → Verdict
 after-length s = orElse (headVerdict (wordAt s 0)) (after-head s)
 
-length-passed : (c : tie.Else1) → numberOf (lengthVerdict (length (c .before .before .before .before .args .s .now))) ≡ 0
+length-passed : (c : tie.Else1) → numberOf (lengthVerdict (length (to-start c .args .s .now))) ≡ 0
 length-passed c = accepts (c .before .before .length-verdict .ensures) (c .before .number-of .ensures) (c .if1 .left)
 
-past-length : (c : tie.Else1) → let s = c .before .before .before .before .args .s .now in verdict s ≡ after-length s
+past-length : (c : tie.Else1) → let s = to-start c .args .s .now in verdict s ≡ after-length s
 unfolding verdict
-past-length c = let s = c .before .before .before .before .args .s .now in orElse-accepted (lengthVerdict (length s)) (after-length s) (length-passed c)
+past-length c = let s = to-start c .args .s .now in orElse-accepted (lengthVerdict (length s)) (after-length s) (length-passed c)
 
-head-is : (c : tie.After-head-verdict) → c .head-verdict .result ≡ headVerdict (wordAt (c .before .before .before .before .before .before .args .s .now) 0)
+head-is : (c : tie.After-head-verdict) → c .head-verdict .result ≡ headVerdict (wordAt (to-start (c .before .before) .args .s .now) 0)
 head-is c = c .head-verdict .ensures ∙ ap headVerdict (c .before .word-at .ensures)
 
-past-head : (c : tie.Else2) → let s = c .before .before .before .before .before .before .before .before .args .s .now in verdict s ≡ after-head s
+past-head : (c : tie.Else2) → let s = to-start (to-length c) .args .s .now in verdict s ≡ after-head s
 past-head c =
-    let s = c .before .before .before .before .before .before .before .before .args .s .now in
-    past-length (c .before .before .before .before)
+    let at-length = to-length c in
+    let s = to-start at-length .args .s .now in
+    past-length at-length
     ∙ orElse-accepted (headVerdict (wordAt s 0)) (after-head s) (accepts (head-is (c .before .before)) (c .before .number-of2 .ensures) (c .if2 .left))
 
-sizes-are : (c : tie.After-sizes-of) → c .sizes-of .result ≡ sizes (c .before .before .before .before .before .before .before .before .before .args .s .now)
+sizes-are : (c : tie.After-sizes-of) → c .sizes-of .result ≡ sizes (to-start (to-length (c .before)) .args .s .now)
 sizes-are c = c .sizes-of .ensures ∙ ap sizesOf (c .before .before .before .before .word-at .ensures)
 
 sizes-fit : (c : tie.After-sizes-of) → (c .sizes-of .result .agents ≤ 1024) × (c .sizes-of .result .procedures ≤ 64)
 sizes-fit c =
-    let few = sizes-few (c .before .before .before .before .before .before .before .before .before .args .s .now) in
+    let few = sizes-few (to-start (to-length (c .before)) .args .s .now) in
     let a = ap (λ h. h .agents) (sizes-are c) in
     let p = ap (λ h. h .procedures) (sizes-are c) in
     omega (arith, few, a, p)
 
-count-is : (c : tie.After-count-verdict) → let s = c .before .before .before .before .before .before .before .before .before .before .before .args .s .now in
+count-is : (c : tie.After-count-verdict) → let s = to-start (to-length (c .before .before .before)) .args .s .now in
     c .count-verdict .result ≡ countVerdict (sizes s) (length (words s))
 count-is c = c .count-verdict .ensures ∙ ap₂ countVerdict (sizes-are (c .before .before)) (c .before .word-count .ensures)
 
-count-passed : (c : tie.Else3) → let s = c .before .before .before .before .before .before .before .before .before .before .before .before .before .args .s .now in
+count-passed : (c : tie.Else3) → let s = to-start (to-length (to-sizes c .before)) .args .s .now in
     numberOf (countVerdict (sizes s) (length (words s))) ≡ 0
 count-passed c = accepts (count-is (c .before .before)) (c .before .number-of3 .ensures) (c .if3 .left)
 
-past-count : (c : tie.Else3) → let s = c .before .before .before .before .before .before .before .before .before .before .before .before .before .args .s .now in verdict s ≡ after-count s
+past-count : (c : tie.Else3) → let s = to-start (to-length (to-sizes c .before)) .args .s .now in verdict s ≡ after-count s
 past-count c =
-    let s = c .before .before .before .before .before .before .before .before .before .before .before .before .before .args .s .now in
-    past-head (c .before .before .before .before .before) ∙ orElse-accepted (countVerdict (sizes s) (length (words s))) (after-count s) (count-passed c)
+    let at-head = to-sizes c .before in
+    let s = to-start (to-length at-head) .args .s .now in
+    past-head at-head ∙ orElse-accepted (countVerdict (sizes s) (length (words s))) (after-count s) (count-passed c)
 
-fault-is : (c : tie.After-first-fault) → let s = c .before .before .before .before .before .before .before .before .before .before .before .before .before .before .args .s .now in
+fault-is : (c : tie.After-first-fault) → let s = to-start (to-length (to-sizes (c .before) .before)) .args .s .now in
     c .first-fault .result ≡ firstFault (sizes s) 1 (drop 1 (words s))
 fault-is c =
-    let s = c .before .before .before .before .before .before .before .before .before .before .before .before .before .before .args .s .now in
-    c .first-fault .ensures ∙ ap (λ h. firstFault h 1 (drop 1 (words s))) (sizes-are (c .before .before .before .before .before))
+    let at-sizes = to-sizes (c .before) in
+    let s = to-start (to-length (at-sizes .before)) .args .s .now in
+    c .first-fault .ensures ∙ ap (λ h. firstFault h 1 (drop 1 (words s))) (sizes-are at-sizes)
 
-fault-passed : (c : tie.Else4) → let s = c .before .before .before .before .before .before .before .before .before .before .before .before .before .before .before .before .args .s .now in
+fault-passed : (c : tie.Else4) → let s = to-start (to-length (to-sizes (c .before .before .before) .before)) .args .s .now in
     numberOf (firstFault (sizes s) 1 (drop 1 (words s))) ≡ 0
 fault-passed c = accepts (fault-is (c .before .before)) (c .before .number-of4 .ensures) (c .if4 .left)
 
@@ -99,7 +112,7 @@ returns c =
 
 word-at-requires : tie.Need-word-at-requires
 word-at-requires c κs =
-    let s = c .before .before .before .before .args .s .now in
+    let s = to-start c .args .s .now in
     omega (arith, length-accepted (length s) (length-passed c), words-length s)
 
 head-verdict-requires : tie.Need-head-verdict-requires
@@ -110,8 +123,9 @@ number-of-requires-2 c κs = search needs
 
 returns-2 : tie.Need-returns-2
 returns-2 c =
-    refuses (after-head (c .before .before .before .before .before .before .before .before .args .s .now)) (head-is (c .before .before)) (c .before .number-of2 .ensures) (c .if2 .taken)
-    ∙ sym (past-length (c .before .before .before .before))
+    let at-length = c .before .before .before .before in
+    refuses (after-head (to-start at-length .args .s .now)) (head-is (c .before .before)) (c .before .number-of2 .ensures) (c .if2 .taken)
+    ∙ sym (past-length at-length)
 
 sizes-of-requires : tie.Need-sizes-of-requires
 sizes-of-requires c κs = search needs
@@ -127,11 +141,12 @@ number-of-requires-3 c κs = search needs
 
 returns-3 : tie.Need-returns-3
 returns-3 c =
-    refuses (after-count (c .before .before .before .before .before .before .before .before .before .before .before .before .before .args .s .now)) (count-is (c .before .before)) (c .before .number-of3 .ensures) (c .if3 .taken)
-    ∙ sym (past-head (c .before .before .before .before .before))
+    let at-head = c .before .before .before .before .before in
+    refuses (after-count (to-start (to-length at-head) .args .s .now)) (count-is (c .before .before)) (c .before .number-of3 .ensures) (c .if3 .taken)
+    ∙ sym (past-head at-head)
 
 first-fault-requires : tie.Need-first-fault-requires
-first-fault-requires c κs = let f = sizes-fit (c .before .before .before .before) in (f .0, f .1)
+first-fault-requires c κs = let f = sizes-fit (to-sizes c) in (f .0, f .1)
 
 number-of-requires-4 : tie.Need-number-of-requires-4
 number-of-requires-4 c κs = search needs
@@ -141,19 +156,22 @@ returns-4 c = refuses _ (fault-is (c .before .before)) (c .before .number-of4 .e
 
 lowest-circle-requires : tie.Need-lowest-circle-requires
 lowest-circle-requires c κs =
-    let s = c .before .before .before .before .before .before .before .before .before .before .before .before .before .before .before .before .args .s .now in (
-      sizes-are (c .before .before .before .before .before .before .before),
+    let at-count = c .before .before .before in
+    let at-sizes = to-sizes at-count in
+    let s = to-start (to-length (at-sizes .before)) .args .s .now in (
+      sizes-are at-sizes,
       record {
-        enough = count-accepted (sizes s) (length (words s)) (count-passed (c .before .before .before)) .0;
+        enough = count-accepted (sizes s) (length (words s)) (count-passed at-count) .0;
         faultless = accepted-only (firstFault (sizes s) 1 (drop 1 (words s))) (fault-passed c);
       },
     )
 
 returns-5 : tie.Need-returns-5
 returns-5 c =
-    let s = c .before .before .before .before .before .before .before .before .before .before .before .before .before .before .before .before .before .args .s .now in
+    let at-count = c .before .before .before .before in
+    let s = to-start (to-length (to-sizes at-count .before)) .args .s .now in
     c .lowest-circle .ensures
-    ∙ sym (past-count (c .before .before .before .before) ∙ orElse-accepted (firstFault (sizes s) 1 (drop 1 (words s))) _ (fault-passed (c .before)))
+    ∙ sym (past-count at-count ∙ orElse-accepted (firstFault (sizes s) 1 (drop 1 (words s))) _ (fault-passed (c .before)))
 
 pub check-spec : {M : Type 1} → statement M
 check-spec =

@@ -10,6 +10,10 @@ use Rattle.wordfaults.proofs.AtWord.{form-first}
 use Rattle.wordfaults.proofs.ports_verdict.Statement.{statement}
 use Rattle.wordfaults.proofs.ports_verdict.Tie as tie
 
+-- Stations of the walk, each from a later place.
+abbrev to-form : tie.After-struct-known2 → tie.Else1
+to-form c = c .before .before .before .before .before
+
 is-word-requires : tie.Need-is-word-requires
 is-word-requires c κs = search needs
 
@@ -26,26 +30,32 @@ number-requires-2 c κs = search needs
 
 returns-2 : tie.Need-returns-2
 returns-2 c =
-    let b = c .before .before .before .before .before .before in
+    let at-form = c .before .before .before .before in
+    let at-is-word = at-form .before in
+    let b = at-is-word .before in
     rw (
-      sym (c .before .before .before .before .before .is-word .ensures) ∙ not-false _ (c .before .before .before .before .if1 .left),
+      sym (at-is-word .is-word .ensures) ∙ not-false _ (at-form .if1 .left),
       le-leb (b .args .sizes .tokens) (field (b .args .w) 0 8) (omega arith),
     )
 
 returns-3 : tie.Need-returns-3
 returns-3 c =
-    let b = c .before .before .before .before .before .before .before .before in
+    let at-form = to-form (c .before) in
+    let at-is-word = at-form .before in
+    let b = at-is-word .before in
     rw (
-      sym (c .before .before .before .before .before .before .before .is-word .ensures) ∙ not-false _ (c .before .before .before .before .before .before .if1 .left),
+      sym (at-is-word .is-word .ensures) ∙ not-false _ (at-form .if1 .left),
       lt-leb (b .args .sizes .tokens) (field (b .args .w) 0 8) (omega arith),
       le-leb (b .args .sizes .tokens) (field (b .args .w) 8 8) (omega arith),
     )
 
 returns-4 : tie.Need-returns-4
 returns-4 c =
-    let b = c .before .before .before .before .before .before .before .before .before in
+    let at-form = to-form (c .before .before) in
+    let at-is-word = at-form .before in
+    let b = at-is-word .before in
     rw (
-      sym (c .before .before .before .before .before .before .before .before .is-word .ensures) ∙ not-false _ (c .before .before .before .before .before .before .before .if1 .left),
+      sym (at-is-word .is-word .ensures) ∙ not-false _ (at-form .if1 .left),
       lt-leb (b .args .sizes .tokens) (field (b .args .w) 0 8) (omega arith),
       lt-leb (b .args .sizes .tokens) (field (b .args .w) 8 8) (omega arith),
       lt-ltb (field (b .args .w) 8 8) (field (b .args .w) 0 8) (omega arith),
@@ -53,9 +63,11 @@ returns-4 c =
 
 returns-5 : tie.Need-returns-5
 returns-5 c =
-    let b = c .before .before .before .before .before .before .before .before .before in
+    let at-form = to-form (c .before .before) in
+    let at-is-word = at-form .before in
+    let b = at-is-word .before in
     rw (
-      sym (c .before .before .before .before .before .before .before .before .is-word .ensures) ∙ not-false _ (c .before .before .before .before .before .before .before .if1 .left),
+      sym (at-is-word .is-word .ensures) ∙ not-false _ (at-form .if1 .left),
       lt-leb (b .args .sizes .tokens) (field (b .args .w) 0 8) (omega arith),
       lt-leb (b .args .sizes .tokens) (field (b .args .w) 8 8) (omega arith),
       le-ltb (field (b .args .w) 8 8) (field (b .args .w) 0 8) (omega arith),

@@ -16,6 +16,13 @@ use Rattle.wordfaults.proofs.AtWord.{form-first}
 use Rattle.wordfaults.proofs.rule_verdict.Statement.{statement}
 use Rattle.wordfaults.proofs.rule_verdict.Tie as tie
 
+-- Stations of the walk, each from a later place.
+abbrev to-start : tie.Else1 → tie.Start
+to-start c = c .before .before
+
+abbrev to-form : tie.After-is-fact → tie.Else1
+to-form c = c .before .before .before .before
+
 -- a fact is taken by its conclusion alone
 fact-taken : (h : Sizes) (k w : ℕ) → isRule w ≡ true → isFact w ≡ true → leb (h .tokens) (field w 0 8) ≡ false → Accepted ≡ ruleVerdict h k w
 fact-taken h k w formed fact known = rw (formed, fact, known)
@@ -37,21 +44,23 @@ formed c = sym (c .before .is-rule .ensures) ∙ not-false _ (c .if1 .left)
 
 returns-2 : tie.Need-returns-2
 returns-2 c =
-    let b = c .before .before .before .before .before in
-    rw (formed (c .before .before .before), le-leb (b .args .sizes .tokens) (field (b .args .w) 0 8) (omega arith))
+    let at-form = c .before .before .before in
+    let b = to-start at-form in
+    rw (formed at-form, le-leb (b .args .sizes .tokens) (field (b .args .w) 0 8) (omega arith))
 
 is-fact-requires : tie.Need-is-fact-requires
 is-fact-requires c κs = search needs
 
 returns-3 : tie.Need-returns-3
 returns-3 c =
-    let b = c .before .before .before .before .before .before .before in
-    fact-taken (b .args .sizes) (b .args .k) (b .args .w) (formed (c .before .before .before .before .before))
+    let at-form = to-form (c .before) in
+    let b = to-start at-form in
+    fact-taken (b .args .sizes) (b .args .k) (b .args .w) (formed at-form)
     (sym (c .before .is-fact .ensures) ∙ c .if3 .taken)
     (lt-leb (b .args .sizes .tokens) (field (b .args .w) 0 8) (omega arith))
 
 -- and no fact
-plain : (c : tie.Else3) → isFact (c .before .before .before .before .before .before .before .args .w) ≡ false
+plain : (c : tie.Else3) → isFact (to-start (to-form (c .before)) .args .w) ≡ false
 plain c = sym (c .before .is-fact .ensures) ∙ c .if3 .left
 
 number-requires-2 : tie.Need-number-requires-2
@@ -59,9 +68,10 @@ number-requires-2 c κs = search needs
 
 returns-4 : tie.Need-returns-4
 returns-4 c =
-    let b = c .before .before .before .before .before .before .before .before .before .before in
+    let at-form = to-form (c .before .before .before .before) in
+    let b = to-start at-form in
     rw (
-      formed (c .before .before .before .before .before .before .before .before),
+      formed at-form,
       plain (c .before .before .before),
       lt-leb (b .args .sizes .tokens) (field (b .args .w) 0 8) (omega arith),
       le-leb (b .args .sizes .tokens) (field (b .args .w) 8 8) (omega arith),
@@ -72,9 +82,10 @@ number-requires-3 c κs = search needs
 
 returns-5 : tie.Need-returns-5
 returns-5 c =
-    let b = c .before .before .before .before .before .before .before .before .before .before .before .before .before in
+    let at-form = to-form (c .before .before .before .before .before .before .before) in
+    let b = to-start at-form in
     rw (
-      formed (c .before .before .before .before .before .before .before .before .before .before .before),
+      formed at-form,
       plain (c .before .before .before .before .before .before),
       lt-leb (b .args .sizes .tokens) (field (b .args .w) 0 8) (omega arith),
       lt-leb (b .args .sizes .tokens) (field (b .args .w) 8 8) (omega arith),
@@ -83,9 +94,10 @@ returns-5 c =
 
 returns-6 : tie.Need-returns-6
 returns-6 c =
-    let b = c .before .before .before .before .before .before .before .before .before .before .before .before .before in
+    let at-form = to-form (c .before .before .before .before .before .before .before) in
+    let b = to-start at-form in
     rw (
-      formed (c .before .before .before .before .before .before .before .before .before .before .before),
+      formed at-form,
       plain (c .before .before .before .before .before .before),
       lt-leb (b .args .sizes .tokens) (field (b .args .w) 0 8) (omega arith),
       lt-leb (b .args .sizes .tokens) (field (b .args .w) 8 8) (omega arith),
