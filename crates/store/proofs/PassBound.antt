@@ -1,9 +1,9 @@
 -- At most 257 passes: each but the last adds one of 256 tokens.
 --     count-one          a store has one count of passes
---     one-closed         what closing gives is settled
+--     one-count          so it is for every score
 --     count-few          with the tokens given, at most 257
 --     pass-bound         each pass but the last adds a token, and there are at most 257
-use mathlib.Core.Path.{_≡_, refl, sym, ap, _∙_}
+use mathlib.Core.Path.{_≡_, refl, ap, _∙_}
 use mathlib.Core.Bool.{Bool, false}
 use mathlib.Core.List.{List}
 use Prim.Native.Nat.{ℕ, zero, suc, _+_, _<_, _≤_}
@@ -12,7 +12,7 @@ use lib.ListN.{length, getD}
 use Rattle.laws.proofs.Booleans.{true-is-false}
 use Rattle.tcc.specs.Closure.{Rule}
 use Rattle.flags.specs.Flags.{setOf}
-use Rattle.store.specs.PassBound.{pass, after, Adds, PassCount, last, more, OneClosed, PassBound}
+use Rattle.store.specs.PassBound.{pass, after, Adds, PassCount, last, more, OneCount, PassBound}
 use Rattle.flags.proofs.Flags.{set-length-le}
 use Rattle.store.proofs.Pass.{pass-long, pass-kept, adds-longer}
 
@@ -35,11 +35,11 @@ module _ (rules : List (Rule ℕ)) where
   count-adding (more a rest) zero lt = a
   count-adding (more a rest) (suc k) lt = count-adding rest k (omega arith)
 
-pub one-closed : OneClosed
-one-closed sc tokens store₁ store₂ n₁ n₂ p q = (p .closes ∙ sym (q .closes), count-one (sc .rules) (p .counts) (q .counts))
+pub one-count : OneCount
+one-count sc tokens n₁ n₂ p q = count-one (sc .rules) p q
 
 pub pass-bound : PassBound
-pass-bound sc tokens store passes long h = record {
-  adding = count-adding (sc .rules) (h .counts);
-  bound = omega (arith, count-few (sc .rules) (h .counts) long);
+pass-bound sc tokens passes long h = record {
+  adding = count-adding (sc .rules) h;
+  bound = omega (arith, count-few (sc .rules) h long);
 }

@@ -73,4 +73,4 @@ module _ (rules : List (Rule ℕ)) where
   count-open {store} (more a rest) = omega (arith, count-open rest, open-fewer store a)
 
 pub rule-bound : RuleBound
-rule-bound sc tokens store passes h = omega (arith, count-open (sc .rules) (h .counts), keep-few (isOpen tokens) (sc .rules))
+rule-bound sc tokens passes h = omega (arith, count-open (sc .rules) h, keep-few (isOpen tokens) (sc .rules))

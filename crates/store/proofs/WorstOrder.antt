@@ -102,4 +102,4 @@ module _ (n : ℕ) where
   worst-count = subst (λ l. PassCount (links n 0 n) l (suc n)) upper-none (links-count n (omega arith))
 
 pub worst-order : WorstOrder
-worst-order sc store passes e h = count-one (sc .rules) (h .counts) (subst⁻¹ (λ l. PassCount l (flagsOf 256 []) 257) e (worst-count 256))
+worst-order sc passes e h = count-one (sc .rules) h (subst⁻¹ (λ l. PassCount l (flagsOf 256 []) 257) e (worst-count 256))

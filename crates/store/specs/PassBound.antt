@@ -5,10 +5,9 @@
 --     after          the store after n passes
 --     Adds           a token that was out comes in
 --     PassCount      how many passes there are: one that adds nothing is the last, one that adds a token is followed by another
---     ClosedFrom     what closing gives: the closure of the given tokens, and how many passes there are from them
---     OneClosed      both are settled
+--     OneCount       that number is settled
 --     Bounded        each pass but the last adds a token, and there are at most 257
---     PassBound      so it is with what closing gives, whatever the score and the tokens
+--     PassBound      so it is whatever the score and the tokens
 use mathlib.Core.Path.{_≡_}
 use mathlib.Core.Bool.{Bool, true, false, cond}
 use mathlib.Core.List.{List, [], _∷_}
@@ -17,8 +16,6 @@ use lib.ListN.{length, getD, set}
 use Rattle.laws.specs.Sets.{every}
 use Rattle.tcc.specs.Closure.{Rule}
 use Rattle.tcc.specs.Score.{Score}
-use Rattle.tcc.specs.Store.{closure}
-use Rattle.flags.specs.Flags.{setOf, flagsOf}
 
 abbrev pub applied : Rule ℕ → List Bool → List Bool
 applied r store = cond (every (λ p. getD store p false) (r .premises)) (set store (r .conclusion) true) store
@@ -40,16 +37,12 @@ pub data PassCount (rules : List (Rule ℕ)) : List Bool → ℕ → Type 0 wher
   last : {store : List Bool} → pass rules store ≡ store → PassCount rules store 1
   more : {store : List Bool} {n : ℕ} → Adds store (pass rules store) → PassCount rules (pass rules store) n → PassCount rules store (suc n)
 
-pub record ClosedFrom (sc : Score) (tokens store : List Bool) (passes : ℕ) : Type 0 where
-  pub closes : store ≡ flagsOf 256 (closure sc (setOf tokens))
-  pub counts : PassCount (sc .rules) tokens passes
-
-abbrev pub OneClosed : Type 0
-OneClosed = (sc : Score) (tokens store₁ store₂ : List Bool) (n₁ n₂ : ℕ) → ClosedFrom sc tokens store₁ n₁ → ClosedFrom sc tokens store₂ n₂ → (store₁ ≡ store₂) × (n₁ ≡ n₂)
+abbrev pub OneCount : Type 0
+OneCount = (sc : Score) (tokens : List Bool) (n₁ n₂ : ℕ) → PassCount (sc .rules) tokens n₁ → PassCount (sc .rules) tokens n₂ → n₁ ≡ n₂
 
 pub record Bounded (rules : List (Rule ℕ)) (tokens : List Bool) (passes : ℕ) : Type 0 where
   pub adding : (k : ℕ) → suc k < passes → Adds (after rules k tokens) (after rules (suc k) tokens)
   pub bound : passes ≤ 257
 
 abbrev pub PassBound : Type 0
-PassBound = (sc : Score) (tokens store : List Bool) (passes : ℕ) → length tokens ≡ 256 → ClosedFrom sc tokens store passes → Bounded (sc .rules) tokens passes
+PassBound = (sc : Score) (tokens : List Bool) (passes : ℕ) → length tokens ≡ 256 → PassCount (sc .rules) tokens passes → Bounded (sc .rules) tokens passes

@@ -5,7 +5,7 @@ use mathlib.Core.Bool.{Bool}
 use mathlib.Core.List.{List}
 use lib.ListN.{length}
 use Rattle.tcc.specs.Score.{Score}
-use Rattle.store.specs.PassBound.{ClosedFrom}
+use Rattle.store.specs.PassBound.{PassCount}
 
 abbrev pub RuleBound : Type 0
-RuleBound = (sc : Score) (tokens store : List Bool) (passes : ℕ) → ClosedFrom sc tokens store passes → passes ≤ length (sc .rules) + 1
+RuleBound = (sc : Score) (tokens : List Bool) (passes : ℕ) → PassCount (sc .rules) tokens passes → passes ≤ length (sc .rules) + 1

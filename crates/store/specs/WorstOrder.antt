@@ -3,14 +3,14 @@
 --     links          the rules of m tokens from k on, rising
 --     WorstOrder     in that order each pass finds the premise of one rule alone: from no token there are 257
 use mathlib.Core.Path.{_≡_}
-use mathlib.Core.Bool.{Bool, cond}
+use mathlib.Core.Bool.{cond}
 use mathlib.Core.List.{List, [], _∷_}
 use Prim.Native.Nat.{ℕ, zero, suc}
 use lib.Dec.{eqb}
 use Rattle.tcc.specs.Closure.{Rule}
 use Rattle.tcc.specs.Score.{Score}
 use Rattle.flags.specs.Flags.{flagsOf}
-use Rattle.store.specs.PassBound.{ClosedFrom}
+use Rattle.store.specs.PassBound.{PassCount}
 
 abbrev pub link : ℕ → ℕ → Rule ℕ
 link n k = record { premises = cond (eqb (suc k) n) [] (suc k ∷ suc k ∷ []); conclusion = k }
@@ -20,4 +20,4 @@ links n k zero = []
 links n k (suc m) = link n k ∷ links n (suc k) m
 
 abbrev pub WorstOrder : Type 0
-WorstOrder = (sc : Score) (store : List Bool) (passes : ℕ) → sc .rules ≡ links 256 0 256 → ClosedFrom sc (flagsOf 256 []) store passes → passes ≡ 257
+WorstOrder = (sc : Score) (passes : ℕ) → sc .rules ≡ links 256 0 256 → PassCount (sc .rules) (flagsOf 256 []) passes → passes ≡ 257

@@ -1,10 +1,13 @@
+// The store of an instant as 256 flags: closed under the rules and the clash, in at most 257 passes.
 ghost use mathlib.Core.Path.{_≡_};
 ghost use mathlib.Core.Bool.{false};
 ghost use Prim.Native.Nat.{_+_, _≤_};
 ghost use lib.ListN.{length};
+ghost use Rattle.tcc.specs.Store.{closure};
 ghost use Rattle.format.specs.Decode.{sizes, decode};
 ghost use Rattle.format.specs.Playable.{Playable};
-ghost use Rattle.store.specs.PassBound.{ClosedFrom};
+ghost use Rattle.flags.specs.Flags.{setOf, flagsOf};
+ghost use Rattle.store.specs.PassBound.{PassCount};
 ghost use Rattle.store.specs.Passes.{HasFacts, adds, Passed, Repeated, Flooded};
 use flags::Tokens;
 use format::Sizes;
@@ -14,7 +17,8 @@ pub fn closed(s: &[u8], head: Sizes, store: &mut Tokens) -> u16
     requires { ⌜ head ≡ sizes (now s) ⌝ }
     requires { ⌜ Playable (now s) ⌝ }
     requires { ⌜ length (now store) ≡ 256 ⌝ }
-    ensures { λ r. ⌜ ClosedFrom (decode (now (s .entry))) (now (store .entry)) (now (store .exit)) r ⌝ }
+    ensures closes { λ _. ⌜ now (store .exit) ≡ flagsOf 256 (closure (decode (now (s .entry))) (setOf (now (store .entry)))) ⌝ }
+    ensures counts { λ r. ⌜ PassCount (decode (now (s .entry)) .rules) (now (store .entry)) r ⌝ }
 {
     let from = 2 + head.agents + head.procedures;
     let passes = close_rules(s, from, store);

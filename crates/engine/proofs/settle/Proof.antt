@@ -5,12 +5,10 @@ use mathlib.Core.List.{List}
 use Prim.Native.Nat.{ℕ, _+_, _-_, _≤_}
 use native.Mathlib.Omega.{arith}
 use lib.ListN.{length}
-use Rattle.tcc.specs.Score.{Score}
 use Rattle.tcc.specs.Store.{closure}
 use Rattle.tcc.specs.FixedPoint.{Marked, Sound}
 use Rattle.format.specs.Decode.{decode}
 use Rattle.flags.specs.Flags.{setOf, flagsOf}
-use Rattle.store.specs.PassBound.{ClosedFrom}
 use Rattle.flags.proofs.Flags.{member-within, set-length-le, set-more, flagsOf-length}
 use Rattle.engine.specs.Marks.{Shut}
 use Rattle.engine.proofs.Closing.{closed-shut, closed-above}
@@ -25,8 +23,8 @@ Inv-loop s head live₀ held₀ live held = (length live ≡ 1024) × (length he
 abbrev μ-loop : tie.MeasureT-loop
 μ-loop s head live₀ held₀ live held = 1280 - (length (setOf live) + length (setOf held))
 
-closed-long : {sc : Score} {tokens store : List Bool} {passes : ℕ} → ClosedFrom sc tokens store passes → length store ≡ 256
-closed-long {sc} {tokens} h = ap length (h .closes) ∙ flagsOf-length 256 (closure sc (setOf tokens))
+closed-long : (tokens : List ℕ) {store : List Bool} → store ≡ flagsOf 256 tokens → length store ≡ 256
+closed-long tokens e = ap length e ∙ flagsOf-length 256 tokens
 
 closed-requires : tie.Need-closed-requires Inv-loop μ-loop
 closed-requires c κs = let b = c .before .before in (b .pre .0, (b .pre .1 .0, search needs))
@@ -37,8 +35,8 @@ loop-holds c =
     let sc = decode (b .args .s .now) in
     let held = c .closed .last .1 .1 .0 in (
       b .pre .1 .1,
-      closed-long (c .closed .ensures),
-      settling-none sc (setOf (b .args .live .now)) (setOf held) (subst⁻¹ (λ l. Shut sc (setOf l)) (c .closed .ensures .closes) (closed-shut sc (b .pre .1 .0 .lawful) (setOf (b .args .inputs)))),
+      closed-long _ (c .closed .ensures .0),
+      settling-none sc (setOf (b .args .live .now)) (setOf held) (subst⁻¹ (λ l. Shut sc (setOf l)) (c .closed .ensures .0) (closed-shut sc (b .pre .1 .0 .lawful) (setOf (b .args .inputs)))),
     )
 
 pass-requires : tie.Need-pass-requires Inv-loop μ-loop
@@ -57,7 +55,7 @@ no-fewer c =
     let sc = decode (b .args .s .now) in
     let h = c .before .before .before .pass .ensures in
     let held = c .before .before .before .pass .last .1 .1 .1 .0 in
-    subst⁻¹ (λ l. length (setOf held) ≤ length (setOf l)) (c .closed2 .ensures .closes)
+    subst⁻¹ (λ l. length (setOf held) ≤ length (setOf l)) (c .closed2 .ensures .0)
     (set-more held (flagsOf 256 (closure sc (setOf held))) (flagsOf-length 256 (closure sc (setOf held)) ∙ sym (h .long-held))
     (λ t m. closed-above sc (b .pre .1 .0 .lawful) (setOf held) t (omega (arith, member-within held m, h .long-held)) m))
 
@@ -66,7 +64,7 @@ loop-less c =
     let h = c .before .before .before .pass .ensures in
     let live = c .before .before .before .pass .last .1 .1 .0 in
     let held = c .closed2 .last .1 .1 .0 in
-    omega (arith, h .larger, ap {B = ℕ} (λ x. cond x 1 0) (c .before .before .if1 .taken), no-fewer c, set-length-le live, h .long-live, set-length-le held, closed-long (c .closed2 .ensures))
+    omega (arith, h .larger, ap {B = ℕ} (λ x. cond x 1 0) (c .before .before .if1 .taken), no-fewer c, set-length-le live, h .long-live, set-length-le held, closed-long _ (c .closed2 .ensures .0))
 
 loop-again : tie.Need-loop-again Inv-loop μ-loop
 loop-again c =
@@ -74,9 +72,9 @@ loop-again c =
     let l = c .before .before .before .before .before .before .loop in
     let p = c .before .before .before .pass in (
       p .ensures .long-live,
-      closed-long (c .closed2 .ensures),
+      closed-long _ (c .closed2 .ensures .0),
       settling-more (decode (b .args .s .now)) (setOf (b .args .live .now)) (setOf (c .before .before .before .before .before .before .before .closed .last .1 .1 .0)) (l .live) (l .held) (p .last .1 .1 .0) (p .last .1 .1 .1 .0) (p .result)
-          (l .inv .2) (p .ensures) (b .pre .1 .0 .lawful) (c .closed2 .last .1 .1 .0) (c .closed2 .ensures .closes),
+          (l .inv .2) (p .ensures) (b .pre .1 .0 .lawful) (c .closed2 .last .1 .1 .0) (c .closed2 .ensures .0),
     )
 
 returns : tie.Need-returns Inv-loop μ-loop
@@ -90,8 +88,8 @@ returns c =
     let inputs = b .args .inputs in
     let long : length inputs ≡ 256 = search needs in
     settled sc lives (setOf (first .closed .last .1 .1 .0)) (l .live) (l .held) (p .last .1 .1 .0) (p .last .1 .1 .1 .0) (p .result) (l .inv .2) (p .ensures) (c .if1 .left) (setOf inputs)
-    (subst⁻¹ (λ h. Sound sc lives (setOf inputs) (Marked lives) (Marked (setOf h))) (first .closed .ensures .closes) (starts-sound sc (b .pre .1 .0 .lawful) lives (setOf inputs)))
-    (λ t m. subst⁻¹ (λ h. Marked (setOf h) t) (first .closed .ensures .closes) (closed-above sc (b .pre .1 .0 .lawful) (setOf inputs) t (omega (arith, member-within inputs m)) m))
+    (subst⁻¹ (λ h. Sound sc lives (setOf inputs) (Marked lives) (Marked (setOf h))) (first .closed .ensures .0) (starts-sound sc (b .pre .1 .0 .lawful) lives (setOf inputs)))
+    (λ t m. subst⁻¹ (λ h. Marked (setOf h) t) (first .closed .ensures .0) (closed-above sc (b .pre .1 .0 .lawful) (setOf inputs) t (omega (arith, member-within inputs m)) m))
 
 pub settle-spec : {M : Type 1} → statement M
 settle-spec =

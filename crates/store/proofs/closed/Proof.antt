@@ -54,21 +54,19 @@ returns c =
     let repeated = c .before .before .before .before in
     let b = repeated .before .before .before .before .before in
     let s = b .args .s .now in
-    let store = repeated .close-rules .last .1 .1 .0 in
-    record {
-      closes = closed-clash (decode s) (setOf (b .args .store .now)) store (drawn repeated) (follows repeated) (c .flood .last .1 .0) (b .pre .1 .0 .lawful) (c .before .before .if1 .taken)
-          (subst (λ n. Flooded n store (c .flood .last .1 .0)) (ap (λ h. h .tokens) (b .pre .0) ∙ sym (decode-tokens s)) (c .flood .ensures));
-      counts = repeated .close-rules .ensures .counted;
-    }
+    let store = repeated .close-rules .last .1 .1 .0 in (
+      closed-clash (decode s) (setOf (b .args .store .now)) store (drawn repeated) (follows repeated) (c .flood .last .1 .0) (b .pre .1 .0 .lawful) (c .before .before .if1 .taken)
+          (subst (λ n. Flooded n store (c .flood .last .1 .0)) (ap (λ h. h .tokens) (b .pre .0) ∙ sym (decode-tokens s)) (c .flood .ensures)),
+      repeated .close-rules .ensures .counted,
+    )
 
 returns-2 : tie.Need-returns-2
 returns-2 c =
     let repeated = c .before .before in
-    let b = repeated .before .before .before .before .before in
-    record {
-      closes = closed-calm (decode (b .args .s .now)) (setOf (b .args .store .now)) (repeated .close-rules .last .1 .1 .0) (drawn repeated) (follows repeated) (c .if1 .left);
-      counts = repeated .close-rules .ensures .counted;
-    }
+    let b = repeated .before .before .before .before .before in (
+      closed-calm (decode (b .args .s .now)) (setOf (b .args .store .now)) (repeated .close-rules .last .1 .1 .0) (drawn repeated) (follows repeated) (c .if1 .left),
+      repeated .close-rules .ensures .counted,
+    )
 
 pub closed-spec : {M : Type 1} → statement M
 closed-spec =
