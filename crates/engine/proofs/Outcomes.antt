@@ -1,8 +1,8 @@
 -- What the engine returns is the instant's answer.
 --     flags-none         no flag is set for the empty set
 --     flags-same         sets with the same members have the same flags
---     aborted-outcome, aborted-status     marks with a live abort
---     quiet-outcome, quiet-status         marks without
+--     aborted-outcome, aborted-trial     marks with a live abort
+--     quiet-outcome, quiet-trial         marks without
 use mathlib.Core.Path.{_≡_, refl, sym, ap, subst, _∙_}
 use mathlib.Core.Bool.{Bool, true, false, cond}
 use mathlib.Core.List.{List, [], List·Memᴰ}
@@ -16,8 +16,9 @@ use Rattle.tcc.specs.FixedPoint.{Settled}
 use Rattle.flags.specs.Flags.{setOf, flagsOf}
 use Rattle.flags.proofs.Flags.{flag-member, member-flag, setOf-none, flagsOf-length, flagsOf-member, member-flagsOf, flags-settled}
 use Rattle.engine.specs.declared.Outcome.{Outcome}
+use Rattle.engine.specs.declared.Trial.{Trial}
 use Rattle.engine.specs.Marks.{Fixed}
-use Rattle.engine.specs.Outcome.{outcomeOf}
+use Rattle.engine.specs.Outcome.{outcomeOf, trialOf}
 use Rattle.engine.proofs.ScratchCount.{aborts-so, settled-so}
 
 pub flags-none : (n : ℕ) → replicate n false ≡ flagsOf n []
@@ -29,6 +30,9 @@ flags-same n {l} {k} same = flags-settled n k (flagsOf n l) (flagsOf-length n l)
 abbrev outcome : ℕ → ℕ → List Bool → List Bool → Outcome
 outcome status count store awake = record { status = status; count = count; store = store; awake = awake }
 
+abbrev trial : ℕ → List Bool → Trial
+trial status store = record { status = status; store = store }
+
 module _ (sc : Score) (agents inputs lives : List ℕ) (held : List Bool) (fixed : Fixed sc agents inputs lives (setOf held)) where
   abbrev Aborting : Bool
   Aborting = any (λ i. isAbort (agentAt sc i)) lives
@@ -37,16 +41,24 @@ module _ (sc : Score) (agents inputs lives : List ℕ) (held : List Bool) (fixed
   unfolding outcomeOf
   aborted-outcome e = ap (λ s. outcome 2 0 s (replicate 1024 false)) (flags-none 256) ∙ ap (outcome 2 0 (flagsOf 256 [])) (flags-none 1024) ∙ ap outcomeOf (sym (aborts-so sc agents inputs lives (setOf held) fixed e))
 
-  pub aborted-status : true ≡ Aborting → 2 ≡ instant sc agents inputs .status
-  aborted-status e = sym (ap (λ a. a .status) (aborts-so sc agents inputs lives (setOf held) fixed e))
+  pub aborted-trial : true ≡ Aborting → trial 2 (replicate 256 false) ≡ trialOf (instant sc agents inputs)
+  unfolding trialOf
+  aborted-trial e = ap (trial 2) (flags-none 256) ∙ ap trialOf (sym (aborts-so sc agents inputs lives (setOf held) fixed e))
 
   module _ (none : false ≡ Aborting) where
     quiet : Settled sc lives (setOf held) (instant sc agents inputs)
     quiet = settled-so sc agents inputs lives (setOf held) fixed none
 
-    pub quiet-status : (b : Bool) → getD held 0 false ≡ b → cond b 1 0 ≡ instant sc agents inputs .status
+    quiet-status : (b : Bool) → getD held 0 false ≡ b → cond b 1 0 ≡ instant sc agents inputs .status
     quiet-status true e = sym (quiet .clash (flag-member held e))
     quiet-status false e = sym (quiet .no-clash (λ m. true-is-false (member-flag held m) e))
+
+    quiet-store : length held ≡ 256 → held ≡ flagsOf 256 (instant sc agents inputs .store)
+    quiet-store long = flags-settled 256 (instant sc agents inputs .store) held long (λ i lt. quiet .same-store i)
+
+    pub quiet-trial : length held ≡ 256 → (b : Bool) → getD held 0 false ≡ b → trial (cond b 1 0) held ≡ trialOf (instant sc agents inputs)
+    unfolding trialOf
+    quiet-trial long b e = ap (λ x. trial x held) (quiet-status b e) ∙ ap (trial (instant sc agents inputs .status)) (quiet-store long)
 
     pub quiet-outcome : (status count : ℕ) (awake : List Bool) → length held ≡ 256 → status ≡ cond (getD held 0 false) 1 0 →
         ((instant sc agents inputs .status ≡ 2 → ⊥) → count ≡ length (instant sc agents inputs .reduced)) → awake ≡ flagsOf 1024 (leftAwake sc (setOf held) lives) →
@@ -56,7 +68,7 @@ module _ (sc : Score) (agents inputs lives : List ℕ) (held : List Bool) (fixed
         let a = instant sc agents inputs in
         let p′ : status ≡ a .status = p ∙ quiet-status (getD held 0 false) refl in
         let q′ : count ≡ length (a .reduced) = q (quiet .unaborted) in
-        let s′ : held ≡ flagsOf 256 (a .store) = flags-settled 256 (a .store) held long (λ i lt. quiet .same-store i) in
+        let s′ : held ≡ flagsOf 256 (a .store) = quiet-store long in
         let r′ : awake ≡ flagsOf 1024 (a .awake) = r ∙ flags-same 1024 (quiet .same-awake) in
         ap (λ x. outcome x count held awake) p′ ∙ ap (λ x. outcome (a .status) x held awake) q′
         ∙ ap (λ x. outcome (a .status) (length (a .reduced)) x awake) s′ ∙ ap (outcome (a .status) (length (a .reduced)) (flagsOf 256 (a .store))) r′

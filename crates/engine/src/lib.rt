@@ -1,3 +1,4 @@
+// One instant of a playable score: agents and input tokens in, status, count, store and agents awake out; in the scratch.
 ghost use mathlib.Core.Path.{_≡_};
 ghost use lib.ListN.{length};
 ghost use Rattle.tcc.specs.Instant.{instant};
@@ -6,7 +7,7 @@ ghost use Rattle.format.specs.Playable.{Playable};
 ghost use Rattle.flags.specs.Flags.{setOf};
 ghost use Rattle.lent.specs.Lengths.{noScratch};
 ghost use Rattle.engine.specs.Marks.{Fixed};
-ghost use Rattle.engine.specs.Outcome.{outcomeOf};
+ghost use Rattle.engine.specs.Outcome.{outcomeOf, trialOf};
 use flags::Agents;
 use flags::Tokens;
 use format::Sizes;
@@ -51,22 +52,28 @@ pub fn play(s: &[u8], head: Sizes, agents: Agents, inputs: Tokens, scratch: &mut
     }
 }
 
-// The status alone of such an instant.
-pub fn status_of(s: &[u8], head: Sizes, agents: &Agents, inputs: &Tokens) -> usize
+// What a trial of an instant shows.
+pub struct Trial {
+    pub status: usize,
+    pub store: Tokens,
+}
+
+// Tries such an instant: its status and its store alone, without a scratch.
+pub fn try_instant(s: &[u8], head: Sizes, agents: &Agents, inputs: &Tokens) -> Trial
     requires { ⌜ head ≡ sizes (now s) ⌝ }
     requires { ⌜ Playable (now s) ⌝ }
     requires { ⌜ length (now agents) ≡ 1024 ⌝ }
-    ensures { λ r. ⌜ r ≡ instant (decode (now (s .entry))) (setOf (now (agents .entry))) (setOf (now (inputs .entry))) .status ⌝ }
+    ensures { λ r. ⌜ r ≡ trialOf (instant (decode (now (s .entry))) (setOf (now (agents .entry))) (setOf (now (inputs .entry)))) ⌝ }
 {
     let mut live = *agents;
-    let held = settle(s, head, &mut live, *inputs);
+    let store = settle(s, head, &mut live, *inputs);
     if ending::any_aborts(s, head, &live) {
-        return 2;
+        let status = 2;
+        let store = [false; 256];
+        return Trial { status, store };
     }
-    if held[0] {
-        return 1;
-    }
-    0
+    let status = if store[0] { 1 } else { 0 };
+    Trial { status, store }
 }
 
 // Passes until there is nothing to add; marks the agents that come alive, and returns the tokens held.

@@ -86,7 +86,8 @@ fn status_in(score: &[u8], head: Sizes, running: bool, awake: &Agents, pressed: 
     ensures { λ r. ⌜ r ≡ answer (decode (now (score .entry))) (stateFrom running (now (awake .entry))) (setOf (now (pressed .entry))) .status ⌝ }
 {
     if running {
-        return engine::status_of(score, head, awake, pressed);
+        let trial = engine::try_instant(score, head, awake, pressed);
+        return trial.status;
     }
     2
 }

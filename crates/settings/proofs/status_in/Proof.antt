@@ -4,18 +4,19 @@ use borrow.Author.Needs.{needs}
 use Rattle.tcc.specs.Instant.{answer}
 use Rattle.format.specs.Decode.{decode}
 use Rattle.flags.specs.Flags.{setOf}
+use Rattle.engine.specs.Outcome.{trialOf}
 use Rattle.settings.specs.Standing.{stateFrom}
 use Rattle.settings.proofs.status_in.Statement.{statement}
 use Rattle.settings.proofs.status_in.Tie as tie
 
-status-of-requires : tie.Need-status-of-requires
-status-of-requires c κs = search needs
+try-instant-requires : tie.Need-try-instant-requires
+try-instant-requires c κs = search needs
 
 returns : tie.Need-returns
-unfolding answer
+unfolding answer trialOf
 returns c =
     let a = c .before .before .before .args in
-    c .status-of .ensures ∙ sym (ap (λ r. answer (decode (a .score .now)) (stateFrom r (a .awake .now)) (setOf (a .pressed .now)) .status) (c .before .if1 .taken))
+    ap (λ t. t .status) (c .try-instant .ensures) ∙ sym (ap (λ r. answer (decode (a .score .now)) (stateFrom r (a .awake .now)) (setOf (a .pressed .now)) .status) (c .before .if1 .taken))
 
 returns-2 : tie.Need-returns-2
 unfolding answer
@@ -24,4 +25,4 @@ returns-2 c =
     sym (ap (λ r. answer (decode (a .score .now)) (stateFrom r (a .awake .now)) (setOf (a .pressed .now)) .status) (c .if1 .left))
 
 pub status-in-spec : {M : Type 1} → statement M
-status-in-spec = tie.close (tie.spec status-of-requires returns returns-2)
+status-in-spec = tie.close (tie.spec try-instant-requires returns returns-2)
