@@ -3,12 +3,11 @@
 --     bytesOf-append     one list of words after the other
 --     Written            a buffer with words written from its front
 --     written-more       one word more
---     written-all        words as many as the buffer holds
 use mathlib.Core.Path.{_≡_, refl, sym, ap, ap₂, _∙_}
-use mathlib.Core.List.{List, [], _∷_, _++_, append-nil}
-use Prim.Native.Nat.{ℕ, _+_, _*_, _≤_}
+use mathlib.Core.List.{List, [], _∷_, _++_}
+use Prim.Native.Nat.{ℕ, _+_, _*_}
 use native.Mathlib.Omega.{arith}
-use lib.ListN.{length, take, drop, length-append, drop-of-length-le}
+use lib.ListN.{length, take, drop, length-append}
 use lib.Seq.{take-at, drop-append-add, drop-drop}
 use Rattle.bits.specs.Bits.{bytesOf}
 
@@ -41,6 +40,3 @@ written-more ws w n s e =
 
     more : 4 * length ws + 4 ≡ 4 * length (ws ++ (w ∷ []))
     more = omega (arith, length-append ws (w ∷ []))
-
-pub written-all : (ws s : List ℕ) → length s ≤ 4 * length ws → Written ws s ≡ bytesOf ws
-written-all ws s h = ap (λ k. bytesOf ws ++ k) (drop-of-length-le s h) ∙ append-nil (bytesOf ws)

@@ -1,6 +1,7 @@
 -- A state beside its instant number.
 --     SameHead             bytes with the same words of a state, their numbers aside
 --     agents-aside, state-aside, fault-aside     what is read of them is the same
+--     numbered-put         a state with its number put behind it
 --     numbered-head, numbered-state     a state with its number has the words of the state
 --     numbered-length      its bytes
 --     numbered-same        the same agents and the same number make the same bytes
@@ -15,7 +16,7 @@ use mathlib.Core.List.{List, [], _∷_, _++_, List·Memᴰ·not-nil}
 use Prim.Native.Nat.{ℕ, suc, _+_, _*_, _/_, _%_, _<_, _≤_}
 use native.Mathlib.Omega.{arith}
 use lib.Dec.{eqb, leb}
-use lib.ListN.{length, getD, length-append, List·getD-append}
+use lib.ListN.{length, getD, take, length-append, List·getD-append}
 use lib.Seq.{getD-append-seam}
 use Rattle.laws.specs.Sets.{below, any}
 use Rattle.laws.proofs.Sets.{on-cons, on-append, keep-agrees, below-lt}
@@ -24,8 +25,9 @@ use Rattle.words.specs.Word.{joined, wordAt}
 use Rattle.words.proofs.Words.{words-length, word-joined}
 use Rattle.bits.specs.Bits.{bitAt, bytesOf}
 use Rattle.bits.proofs.Bytes.{bytesOf-length, bytesOf-append}
-use Rattle.lent.specs.Lengths.{stateBytes}
+use Rattle.lent.specs.Lengths.{unnumberedBytes, stateBytes}
 use Rattle.lent.specs.States.{runningWord, abortedWord, agentsIn, stateFault, stateOf, stateWords, asBytes, instantNumber, numbered, nextBytes, lastNumber, SameButNumber, LawfulState, SameState}
+use Rattle.lent.proofs.Gathered.{number-put}
 use Rattle.lent.proofs.Round.{words-bytes, stateWords-length, stateWords-fit, asBytes-length, asBytes-same, state-round}
 
 abbrev pub SameHead : List ℕ → List ℕ → Type 0
@@ -45,7 +47,7 @@ module _ (s t : List ℕ) (same : SameHead s t) where
   fault-aside n =
       ap₂ (λ w l. not (eqb w runningWord || eqb w abortedWord) || any (λ i. leb n i) l || (eqb w abortedWord && any (λ i. leb 0 i) l)) (same 0 (omega arith)) agents-aside
 
-bytes-head : (s t : List ℕ) → 132 ≤ length s → 132 ≤ length t → ((i : ℕ) → i < 132 → getD s i 0 ≡ getD t i 0) → SameHead s t
+bytes-head : (s t : List ℕ) → unnumberedBytes ≤ length s → unnumberedBytes ≤ length t → ((i : ℕ) → i < unnumberedBytes → getD s i 0 ≡ getD t i 0) → SameHead s t
 bytes-head s t a b e i h =
     word-joined s i (omega (arith, words-length s))
     ∙ ap₂ (λ x y. joined x y (getD s (i * 4 + 2) 0) (getD s (i * 4 + 3) 0)) (e (i * 4) (omega arith)) (e (i * 4 + 1) (omega arith))
@@ -56,6 +58,10 @@ module _ (st : State) (n : ℕ) where
   parts : numbered st n ≡ asBytes st ++ bytesOf (n ∷ [])
   unfolding numbered asBytes
   parts = bytesOf-append (stateWords st) (n ∷ [])
+
+  pub numbered-put : (rest s t : List ℕ) → s ≡ asBytes st ++ rest → t ≡ take unnumberedBytes s ++ bytesOf (n ∷ []) → t ≡ numbered st n
+  unfolding numbered asBytes
+  numbered-put rest s t = number-put (stateWords st) n rest s t (stateWords-length st)
 
   pub numbered-length : length (numbered st n) ≡ stateBytes
   numbered-length = ap length parts ∙ length-append (asBytes st) (bytesOf (n ∷ [])) ∙ ap₂ _+_ (asBytes-length st) (bytesOf-length (n ∷ []))

@@ -1,5 +1,6 @@
 -- States, read back from the bytes that they are written as.
 --     words-bytes        the words of the bytes of words are those words
+--     agentWords-length  the words of a set of agents
 --     stateWords-length, stateWords-fit     the words of a state
 --     asBytes-length     its bytes
 --     asBytes-same       the same agents make the same bytes
@@ -26,6 +27,7 @@ use Rattle.words.specs.Word.{joined, words, wordAt}
 use Rattle.bits.specs.Bits.{bitAt, bitsValue, bytesOf}
 use Rattle.bits.proofs.Bits.{bitsValue-below, bitsValue-same, bitsValue-bit}
 use Rattle.bits.proofs.Bytes.{bytesOf-length}
+use Rattle.lent.specs.Lengths.{unnumberedBytes}
 use Rattle.lent.specs.States.{runningWord, abortedWord, agentsIn, stateFault, stateOf, agentWords, stateWords, asBytes, LawfulState, SameState}
 use Rattle.lent.proofs.Agents.{awakeIn, agents-within}
 use Rattle.lent.proofs.Faults.{fault-running, fault-aborted}
@@ -50,7 +52,7 @@ words-bytes (w ∷ ws) h = ap₂ _∷_ (rejoined w (h w (List·Memᴰ·head refl
 abbrev word : List ℕ → ℕ → ℕ
 word l k = bitsValue (λ j. has (32 * k + j) l) 32
 
-agentWords-length : (l : List ℕ) → length (agentWords l) ≡ 32
+pub agentWords-length : (l : List ℕ) → length (agentWords l) ≡ 32
 unfolding agentWords
 agentWords-length l = length-map (below 32) (word l) ∙ below-length 32
 
@@ -103,7 +105,7 @@ pub stateWords-fit : (st : State) → Within (λ w. w < 2 ^ 32) (stateWords st)
 stateWords-fit (running l) = on-cons (omega arith) (agentWords-fit l)
 stateWords-fit aborted = on-cons (omega arith) (agentWords-fit [])
 
-pub asBytes-length : (st : State) → length (asBytes st) ≡ 132
+pub asBytes-length : (st : State) → length (asBytes st) ≡ unnumberedBytes
 unfolding asBytes
 asBytes-length st = bytesOf-length (stateWords st) ∙ ap (λ n. 4 * n) (stateWords-length st)
 

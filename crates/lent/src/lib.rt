@@ -1,13 +1,14 @@
+// What the caller lends: its lengths; states as bytes, read to flags and written from them, and their numbers.
 ghost use mathlib.Core.Path.{_≡_};
 ghost use mathlib.Core.Bool.{false};
 ghost use mathlib.Core.List.{[], _∷_, _++_};
 ghost use Prim.Native.Nat.{ℕ, _≤_};
-ghost use lib.ListN.{length, getD};
+ghost use lib.ListN.{length, getD, take, drop};
 ghost use lib.Dec.{leb};
 ghost use Rattle.laws.specs.Sets.{any};
 ghost use Rattle.flags.specs.Flags.{setOf, flagsOf};
 ghost use Rattle.bits.specs.Bits.{bytesOf};
-ghost use Rattle.lent.specs.Lengths.{stateBytes};
+ghost use Rattle.lent.specs.Lengths.{unnumberedBytes, stateBytes};
 ghost use Rattle.lent.specs.States.{agentsIn, stateFault, agentWords, instantNumber};
 use flags::Agents;
 
@@ -28,7 +29,7 @@ pub const LAST_NUMBER: u32 = 0xFFFF_FFFF;
 
 // The agents awake in a state, as flags.
 pub fn read_agents(state: &[u8]) -> Agents
-    requires { ⌜ length (now state) ≡ stateBytes ⌝ }
+    requires { ⌜ unnumberedBytes ≤ length (now state) ⌝ }
     ensures { λ r. ⌜ r ≡ flagsOf 1024 (agentsIn (now (state .entry))) ⌝ }
 {
     let mut flags = [false; 1024];
@@ -57,6 +58,16 @@ pub fn write_state(state: &mut [u8], first: u32, agents: usize, awake: Agents, n
     requires { ⌜ ((i : ℕ) → agents ≤ i → getD awake i false ≡ false) ⌝ }
     ensures { λ _. ⌜ now (state .exit) ≡ bytesOf ((first ∷ agentWords (setOf awake)) ++ number ∷ []) ⌝ }
 {
+    write_unnumbered(state, first, agents, awake);
+    write_number(state, number);
+}
+
+// Writes a state without its number: its first word and the agents awake, all of them below `agents`.
+pub fn write_unnumbered(state: &mut [u8], first: u32, agents: usize, awake: Agents)
+    requires { ⌜ unnumberedBytes ≤ length (now state) ⌝ }
+    requires { ⌜ ((i : ℕ) → agents ≤ i → getD awake i false ≡ false) ⌝ }
+    ensures { λ _. ⌜ now (state .exit) ≡ bytesOf (first ∷ agentWords (setOf awake)) ++ drop unnumberedBytes (now (state .entry)) ⌝ }
+{
     bits::put_word(state, 0, first);
     let mut k = 0;
     while k < 32 {
@@ -64,12 +75,19 @@ pub fn write_state(state: &mut [u8], first: u32, agents: usize, awake: Agents, n
         bits::put_word(state, 1 + k, w);
         k += 1;
     }
+}
+
+// Writes the number of a state.
+pub fn write_number(state: &mut [u8], number: u32)
+    requires { ⌜ length (now state) ≡ stateBytes ⌝ }
+    ensures { λ _. ⌜ now (state .exit) ≡ take unnumberedBytes (now (state .entry)) ++ bytesOf (number ∷ []) ⌝ }
+{
     bits::put_word(state, 33, number);
 }
 
 // Whether bytes are no state of a score with so many agents.
 pub fn state_fault(state: &[u8], agents: usize) -> bool
-    requires { ⌜ length (now state) ≡ stateBytes ⌝ }
+    requires { ⌜ unnumberedBytes ≤ length (now state) ⌝ }
     ensures { λ r. ⌜ r ≡ stateFault agents (now (state .entry)) ⌝ }
 {
     let first = words::word_at(state, 0);
@@ -84,7 +102,7 @@ pub fn state_fault(state: &[u8], agents: usize) -> bool
 
 // Whether an agent from a number on is awake in a state.
 fn agent_from(state: &[u8], from: usize) -> bool
-    requires { ⌜ length (now state) ≡ stateBytes ⌝ }
+    requires { ⌜ unnumberedBytes ≤ length (now state) ⌝ }
     ensures { λ r. ⌜ r ≡ any (λ i. leb from i) (agentsIn (now (state .entry))) ⌝ }
 {
     let mut found = false;

@@ -1,15 +1,17 @@
+// Where a score stands between instants: read from a state, answered from, written to a state; what goes to the ports.
 ghost use mathlib.Core.Path.{_≡_};
 ghost use mathlib.Core.Bool.{false, _&&_, not};
+ghost use mathlib.Core.List.{_++_};
 ghost use Prim.Native.Nat.{ℕ, _<_, _≤_};
 ghost use lib.Dec.{eqb, leb};
-ghost use lib.ListN.{length, getD};
+ghost use lib.ListN.{length, getD, drop};
 ghost use Rattle.tcc.specs.Instant.{output, answer};
 ghost use Rattle.format.specs.Decode.{sizes, decode};
 ghost use Rattle.format.specs.Playable.{Playable};
 ghost use Rattle.flags.specs.Flags.{setOf, flagsOf};
 ghost use Rattle.engine.specs.Outcome.{outcomeOf};
-ghost use Rattle.lent.specs.Lengths.{stateBytes, noScratch};
-ghost use Rattle.lent.specs.States.{numbered, LawfulState};
+ghost use Rattle.lent.specs.Lengths.{unnumberedBytes, stateBytes, noScratch};
+ghost use Rattle.lent.specs.States.{asBytes, numbered, LawfulState};
 ghost use Rattle.standing.specs.Standing.{stateIn, standingIn};
 use engine::Outcome;
 use flags::Agents;
@@ -24,7 +26,7 @@ pub struct Standing {
 
 // Where a score stands in a state.
 pub fn standing_in(state: &[u8]) -> Standing
-    requires { ⌜ length (now state) ≡ stateBytes ⌝ }
+    requires { ⌜ unnumberedBytes ≤ length (now state) ⌝ }
     ensures { λ r. ⌜ r ≡ standingIn (now (state .entry)) ⌝ }
 {
     let running = words::word_at(state, 0) != lent::ABORTED;
@@ -76,12 +78,22 @@ pub fn write_standing(state: &mut [u8], agents: usize, standing: Standing, numbe
     requires { ⌜ LawfulState agents (stateIn standing) ⌝ }
     ensures { λ _. ⌜ now (state .exit) ≡ numbered (stateIn standing) number ⌝ }
 {
+    write_unnumbered(state, agents, standing);
+    lent::write_number(state, number);
+}
+
+// Writes the state that a score stands in, without its number.
+pub fn write_unnumbered(state: &mut [u8], agents: usize, standing: Standing)
+    requires { ⌜ unnumberedBytes ≤ length (now state) ⌝ }
+    requires { ⌜ LawfulState agents (stateIn standing) ⌝ }
+    ensures { λ _. ⌜ now (state .exit) ≡ asBytes (stateIn standing) ++ drop unnumberedBytes (now (state .entry)) ⌝ }
+{
     let awake = standing.awake;
     if standing.running {
-        lent::write_state(state, lent::RUNNING, agents, awake, number);
+        lent::write_unnumbered(state, lent::RUNNING, agents, awake);
         return;
     }
-    lent::write_state(state, lent::ABORTED, 0, [false; 1024], number);
+    lent::write_unnumbered(state, lent::ABORTED, 0, [false; 1024]);
 }
 
 // What goes to the ports: the one place where outputs are read off. In a clash nothing does.

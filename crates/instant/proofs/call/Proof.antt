@@ -146,7 +146,7 @@ sizes-of-requires : tie.Need-sizes-of-requires
 sizes-of-requires c κs = search needs
 
 state-fault-requires : tie.Need-state-fault-requires
-state-fault-requires c κs = lengths-are (to-lengths (c .before)) .state-long
+state-fault-requires c κs = omega (arith, lengths-are (to-lengths (c .before)) .state-long)
 
 same-length : tie.Need-same-length
 same-length c = search needs

@@ -93,7 +93,7 @@ sizes-of-requires c κs = search needs
 state-fault-requires : tie.Need-state-fault-requires
 state-fault-requires c κs =
     let at-lengths = to-lengths (c .before) in
-    right-lengths (buffers (to-start (to-score at-lengths .before))) (long at-lengths) .state-long
+    omega (arith, right-lengths (buffers (to-start (to-score at-lengths .before))) (long at-lengths) .state-long)
 
 same-length : tie.Need-same-length
 same-length c = search needs

@@ -1,65 +1,29 @@
--- `write_standing`: by whether the score is running.
-use mathlib.Core.Path.{_≡_, refl, sym, ap, subst, _∙_}
-use mathlib.Core.Bool.{Bool, true, false, cond}
-use mathlib.Core.List.{[], _∷_, _++_}
-use Prim.Native.Nat.{ℕ, _<_, _≤_}
+-- `write_standing`: the state without its number, and the number put behind it.
 use borrow.Author.Needs.{needs}
 use native.Mathlib.Omega.{arith}
-use lib.ListN.{getD, replicate}
-use Rattle.tcc.specs.Instant.{running, aborted}
-use Rattle.flags.specs.Flags.{setOf}
-use Rattle.flags.proofs.Flags.{flag-member, setOf-none}
-use Rattle.engine.proofs.Outcomes.{flags-none}
-use Rattle.bits.specs.Bits.{bytesOf}
-use Rattle.lent.specs.States.{runningWord, abortedWord, agentWords, numbered, LawfulState}
-use Rattle.standing.specs.declared.Standing.{Standing}
+use lib.ListN.{drop}
+use Rattle.lent.specs.Lengths.{unnumberedBytes}
+use Rattle.lent.proofs.Numbered.{numbered-put}
 use Rattle.standing.specs.Standing.{stateIn}
-use Rattle.standing.proofs.Inside.{flags-known}
 use Rattle.standing.proofs.write_standing.Statement.{statement}
 use Rattle.standing.proofs.write_standing.Tie as tie
 
-running-bytes : (s : Standing) (n : ℕ) → s .running ≡ true → bytesOf ((runningWord ∷ agentWords (setOf (s .awake))) ++ n ∷ []) ≡ numbered (stateIn s) n
-unfolding stateIn numbered
-running-bytes s n e = sym (ap (λ b. numbered (cond b (running (setOf (s .awake))) aborted) n) e)
+write-unnumbered-requires : tie.Need-write-unnumbered-requires
+write-unnumbered-requires c κs = let b = c .before .before in (omega (arith, b .pre .0), b .pre .1)
 
-aborted-bytes : (s : Standing) (n : ℕ) → s .running ≡ false → bytesOf ((abortedWord ∷ agentWords (setOf (replicate 1024 false))) ++ n ∷ []) ≡ numbered (stateIn s) n
-unfolding stateIn numbered
-aborted-bytes s n e = ap (λ l. bytesOf ((abortedWord ∷ agentWords l) ++ n ∷ [])) (setOf-none 1024) ∙ sym (ap (λ b. numbered (cond b (running (setOf (s .awake))) aborted) n) e)
-
-awake-known : (n : ℕ) (s : Standing) → s .running ≡ true → LawfulState n (stateIn s) → (i : ℕ) → n ≤ i → getD (s .awake) i false ≡ false
-unfolding stateIn LawfulState
-awake-known n s e l i h = go (getD (s .awake) i false) refl
-  where
-    known : LawfulState n (running (setOf (s .awake)))
-    known = subst (λ b. LawfulState n (cond b (running (setOf (s .awake))) aborted)) e l
-
-    go : (b : Bool) → getD (s .awake) i false ≡ b → getD (s .awake) i false ≡ false
-    go true f = absurd (let k : i < n = known i (flag-member (s .awake) f) in omega arith)
-    go false f = f
-
-none-known : (i : ℕ) → getD (replicate 1024 false) i false ≡ false
-none-known i = ap (λ l. getD l i false) (flags-none 1024) ∙ flags-known 1024 0 [] (λ j m. elim m [ ]) i (omega arith)
-
-write-state-requires : tie.Need-write-state-requires
-write-state-requires c κs =
-    let b = c .before .before .before .before in
-    (b .pre .0, awake-known (b .args .agents) (b .args .standing) (c .before .if1 .taken) (b .pre .1))
+write-number-requires : tie.Need-write-number-requires
+write-number-requires c κs = search needs
 
 same-length : tie.Need-same-length
 same-length c = search needs
 
 returns : tie.Need-returns
-returns c = let a = c .before .before .before .before .before .before .before .args in c .before .before .write-state .ensures ∙ running-bytes (a .standing) (a .number) (c .before .before .before .before .if1 .taken)
-
-write-state-requires-2 : tie.Need-write-state-requires-2
-write-state-requires-2 c κs = (c .before .before .before .before .pre .0, λ i h. none-known i)
-
-same-length-2 : tie.Need-same-length-2
-same-length-2 c = search needs
-
-returns-2 : tie.Need-returns-2
-returns-2 c = let a = c .before .before .before .before .before .before .before .args in c .before .before .write-state2 .ensures ∙ aborted-bytes (a .standing) (a .number) (c .before .before .before .before .if1 .left)
+returns c =
+    let a = c .before .before .before .before .before .before .before .before .before .args in
+    let s = c .before .before .before .before .before .before .write-unnumbered in
+    let t = c .before .before .write-number in
+    numbered-put (stateIn (a .standing)) (a .number) (drop unnumberedBytes (a .state .now)) (s .last .0) (t .last .0) (s .ensures) (t .ensures)
 
 pub write-standing-spec : {M : Type 1} → statement M
 write-standing-spec =
-    tie.close (tie.spec write-state-requires same-length returns write-state-requires-2 same-length-2 returns-2)
+    tie.close (tie.spec write-unnumbered-requires write-number-requires same-length returns)
