@@ -1,11 +1,13 @@
+// The sets that agents of a draft ask for at quiet.
 ghost use mathlib.Core.Path.{_≡_};
 ghost use mathlib.Core.Bool.{true};
 ghost use mathlib.Core.List.{List·Memᴰ};
 ghost use Prim.Native.Nat.{ℕ, _<_, _≤_};
 ghost use lib.ListN.{length, getD};
+ghost use Rattle.tcc.specs.Limits.{mostTokens, mostAgents};
 ghost use Rattle.format.specs.Decode.{sizes};
 ghost use Rattle.pairs.specs.TokenSets.{holds, members, several};
-ghost use Rattle.pairs.specs.Pairs.{setIn};
+ghost use Rattle.pairs.specs.Pairs.{mostPairs, setIn};
 ghost use Rattle.pairs.specs.Rising.{Rising};
 ghost use Rattle.rows.specs.Rows.{rowValue};
 ghost use Rattle.pairtable.specs.Tables.{keys};
@@ -21,7 +23,7 @@ use tcc::Agent;
 
 // The set that an agent under the set of a pair asks for at quiet, as a pair of number 0; the empty set where it asks for none.
 pub fn asked_by(written: Written, row: Row) -> Row
-    requires { ⌜ ((t : ℕ) → List·Memᴰ t (tokensNamed written) → t < 256) ⌝ }
+    requires { ⌜ ((t : ℕ) → List·Memᴰ t (tokensNamed written) → t < mostTokens) ⌝ }
     ensures { λ r. ⌜ rowValue r ≡ askedBy (setIn (rowValue row)) written ⌝ }
 {
     let nothing = rows::row_of(0);
@@ -53,13 +55,13 @@ pub fn enter_asked(
 ) -> usize
     requires { ⌜ Translatable (now draft) ⌝ }
     requires { ⌜ tokens ≡ sizes (now draft) .tokens ⌝ }
-    requires { ⌜ length (now table) ≡ 1088 ⌝ }
-    requires { ⌜ length (now sets) ≡ 1088 ⌝ }
-    requires { ⌜ agents ≤ 1024 ⌝ }
+    requires { ⌜ length (now table) ≡ mostPairs ⌝ }
+    requires { ⌜ length (now sets) ≡ mostPairs ⌝ }
+    requires { ⌜ agents ≤ mostAgents ⌝ }
     requires { ⌜ keys agents (now table) ≡ agentPlaces (places (decodeDraft (now draft))) ⌝ }
     ensures { λ r. ⌜ keys r (now (sets .exit)) ≡ askedSets (decodeDraft (now (draft .entry))) (agentPlaces (places (decodeDraft (now (draft .entry))))) ⌝ }
     ensures { λ r. ⌜ r ≤ agents ⌝ }
-    ensures { λ _. ⌜ length (now (sets .exit)) ≡ 1088 ⌝ }
+    ensures { λ _. ⌜ length (now (sets .exit)) ≡ mostPairs ⌝ }
 {
     let mut count = 0;
     let mut k = 0;
@@ -76,9 +78,9 @@ pub fn enter_asked(
 
 // How many tokens the sets have in sum.
 pub fn member_count(sets: &Table, count: usize, tokens: usize) -> usize
-    requires { ⌜ length (now sets) ≡ 1088 ⌝ }
-    requires { ⌜ count ≤ 1088 ⌝ }
-    requires { ⌜ tokens ≤ 256 ⌝ }
+    requires { ⌜ length (now sets) ≡ mostPairs ⌝ }
+    requires { ⌜ count ≤ mostPairs ⌝ }
+    requires { ⌜ tokens ≤ mostTokens ⌝ }
     requires { ⌜ TokensBelow tokens (keys count (now sets)) ⌝ }
     ensures { λ r. ⌜ r ≡ length (memberRules tokens (keys count (now (sets .entry)))) ⌝ }
     ensures { λ r. ⌜ r ≤ 278528 ⌝ }
@@ -94,10 +96,10 @@ pub fn member_count(sets: &Table, count: usize, tokens: usize) -> usize
 
 // The token that stands for a set that is not empty: its own where it has one, a new one where it has more.
 pub fn asked_token(set: Row, tokens: usize, sets: &Table, count: usize) -> usize
-    requires { ⌜ tokens ≤ 256 ⌝ }
+    requires { ⌜ tokens ≤ mostTokens ⌝ }
     requires { ⌜ ((t : ℕ) → holds (setIn (rowValue set)) t ≡ true → t < tokens) ⌝ }
-    requires { ⌜ length (now sets) ≡ 1088 ⌝ }
-    requires { ⌜ count ≤ 1088 ⌝ }
+    requires { ⌜ length (now sets) ≡ mostPairs ⌝ }
+    requires { ⌜ count ≤ mostPairs ⌝ }
     requires { ⌜ Rising (keys count (now sets)) ⌝ }
     requires { ⌜ (several (setIn (rowValue set)) ≡ true → List·Memᴰ (setIn (rowValue set)) (keys count (now sets))) ⌝ }
     ensures { λ r. ⌜ r ≡ askedToken tokens (keys count (now (sets .entry))) (setIn (rowValue set)) ⌝ }
@@ -111,7 +113,7 @@ pub fn asked_token(set: Row, tokens: usize, sets: &Table, count: usize) -> usize
 
 // The lowest token of a set; 0 where it has none.
 fn lowest(set: Row, tokens: usize) -> usize
-    requires { ⌜ tokens ≤ 256 ⌝ }
+    requires { ⌜ tokens ≤ mostTokens ⌝ }
     requires { ⌜ ((t : ℕ) → holds (setIn (rowValue set)) t ≡ true → t < tokens) ⌝ }
     ensures { λ r. ⌜ r ≡ getD (members (setIn (rowValue set))) 0 0 ⌝ }
 {

@@ -1,8 +1,10 @@
+// Tables of unguarded calls: a set of procedures for each agent, and a row of flags for each procedure.
 ghost use mathlib.Core.Path.{_≡_};
 ghost use mathlib.Core.Bool.{false, _||_};
 ghost use mathlib.Core.List.{List·Memᴰ};
 ghost use Prim.Native.Nat.{ℕ, _<_, _≤_};
 ghost use lib.ListN.{length, getD};
+ghost use Rattle.tcc.specs.Limits.{mostProcedures};
 ghost use Rattle.tcc.specs.Score.{partsOf, proceduresOf};
 ghost use Rattle.calltable.specs.Calls.{inSet, leadsBy, Stepped, Closed};
 use tcc::Agent;
@@ -15,7 +17,7 @@ pub type Rows = [Row; 64];
 // The set of procedures that an agent leads to, by the sets of the agents below it.
 pub fn leads_to(agent: Agent, sets: &[u64]) -> u64
     requires { ⌜ ((b : ℕ) → List·Memᴰ b (partsOf agent) → b < length (now sets)) ⌝ }
-    requires { ⌜ ((p : ℕ) → List·Memᴰ p (proceduresOf agent) → p < 64) ⌝ }
+    requires { ⌜ ((p : ℕ) → List·Memᴰ p (proceduresOf agent) → p < mostProcedures) ⌝ }
     ensures { λ r. ⌜ ((q : ℕ) → q < 64 → inSet r q ≡ leadsBy agent (now (sets .entry)) q) ⌝ }
 {
     match agent {
@@ -47,7 +49,7 @@ pub fn row_of(set: u64) -> Row
 
 // Closes the rows step by step: whatever a procedure leads to leads on.
 pub fn close(procedures: usize, rows: &mut Rows)
-    requires { ⌜ procedures ≤ 64 ⌝ }
+    requires { ⌜ procedures ≤ mostProcedures ⌝ }
     requires { ⌜ length (now rows) ≡ 64 ⌝ }
     ensures { λ _. ⌜ Closed procedures (now (rows .entry)) (now (rows .exit)) ⌝ }
 {
@@ -61,7 +63,7 @@ pub fn close(procedures: usize, rows: &mut Rows)
 // Each row that marks k takes over what row k marks.
 fn close_through(k: usize, procedures: usize, rows: &mut Rows)
     requires { ⌜ k < procedures ⌝ }
-    requires { ⌜ procedures ≤ 64 ⌝ }
+    requires { ⌜ procedures ≤ mostProcedures ⌝ }
     requires { ⌜ length (now rows) ≡ 64 ⌝ }
     ensures { λ _. ⌜ Stepped procedures k (now (rows .entry)) (now (rows .exit)) ⌝ }
 {

@@ -10,6 +10,7 @@ use mathlib.Core.Logic.{_⊎_}
 use Prim.Native.Nat.{ℕ, _<_, _≤_}
 use lib.ListN.{length}
 use Rattle.drafts.specs.Draft.{Draft}
+use Rattle.pairs.specs.Pairs.{mostPairs}
 use Rattle.pairs.specs.Rising.{Rising}
 use Rattle.pairtable.specs.Tables.{keys}
 use Rattle.translation.specs.Places.{leadsTo, places}
@@ -26,10 +27,10 @@ pub record Copied (d : Draft) (key : ℕ) (before after : List ℕ) : Type 0 whe
 pub record CopiedTo (d : Draft) (key count : ℕ) (before : List (List ℕ)) (r : ℕ) (after : List (List ℕ)) : Type 0 where
   pub long : length after ≡ length before
   pub more : count ≤ r
-  pub room : r ≤ 1088 → Copied d key (keys count before) (keys r after)
-  pub full : 1088 < r → Overfull d
+  pub room : r ≤ mostPairs → Copied d key (keys count before) (keys r after)
+  pub full : mostPairs < r → Overfull d
 
 pub record PlacesIn (d : Draft) (r : ℕ) (table : List (List ℕ)) : Type 0 where
-  pub long : length table ≡ 1088
-  pub exact : r ≤ 1088 → keys r table ≡ places d
-  pub over : 1088 < r → fits (plainOf d) ≡ false
+  pub long : length table ≡ mostPairs
+  pub exact : r ≤ mostPairs → keys r table ≡ places d
+  pub over : mostPairs < r → fits (plainOf d) ≡ false

@@ -1,9 +1,10 @@
+// The pairs of a draft, copied.
 ghost use mathlib.Core.Path.{_≡_};
 ghost use mathlib.Core.List.{List·Memᴰ};
 ghost use Prim.Native.Nat.{ℕ, _<_, _≤_};
 ghost use lib.ListN.{length};
 ghost use Rattle.format.specs.Decode.{sizes};
-ghost use Rattle.pairs.specs.Pairs.{pair, setIn};
+ghost use Rattle.pairs.specs.Pairs.{mostPairs, pair, setIn};
 ghost use Rattle.pairs.specs.Rising.{Rising};
 ghost use Rattle.rows.specs.Rows.{rowValue};
 ghost use Rattle.pairtable.specs.Tables.{keys};
@@ -17,14 +18,11 @@ use pairtable::Table;
 use rows::Row;
 use targets::References;
 
-// The number of procedure 0 in a pair: procedures come after the agents.
-const PROCEDURES: usize = 1024;
-
 // Copies all that the start of a draft leads to, and says how many pairs there are.
 pub fn copy_draft(draft: &[u8], agents: usize, table: &mut Table) -> usize
     requires { ⌜ Translatable (now draft) ⌝ }
     requires { ⌜ agents ≡ sizes (now draft) .agents ⌝ }
-    requires { ⌜ length (now table) ≡ 1088 ⌝ }
+    requires { ⌜ length (now table) ≡ mostPairs ⌝ }
     ensures { λ r. ⌜ PlacesIn (decodeDraft (now (draft .entry))) r (now (table .exit)) ⌝ }
 {
     copy_procedure(draft, agents, 0, rows::row_of(0), table, 0)
@@ -43,13 +41,13 @@ fn copy_procedure(
     requires { ⌜ agents ≡ sizes (now draft) .agents ⌝ }
     requires { ⌜ procedure < sizes (now draft) .procedures ⌝ }
     requires { ⌜ Led (decodeDraft (now draft)) (pair (procedureAt procedure) (setIn (rowValue under))) ⌝ }
-    requires { ⌜ length (now table) ≡ 1088 ⌝ }
-    requires { ⌜ count ≤ 1088 ⌝ }
+    requires { ⌜ length (now table) ≡ mostPairs ⌝ }
+    requires { ⌜ count ≤ mostPairs ⌝ }
     requires { ⌜ Rising (keys count (now table)) ⌝ }
     requires { ⌜ ((k : ℕ) → List·Memᴰ k (keys count (now table)) → Led (decodeDraft (now draft)) k) ⌝ }
     ensures { λ r. ⌜ CopiedTo (decodeDraft (now (draft .entry))) (pair (procedureAt procedure) (setIn (rowValue under))) count (now (table .entry)) r (now (table .exit)) ⌝ }
 {
-    let row = rows::renumbered(under, PROCEDURES + procedure);
+    let row = rows::renumbered(under, pairtable::PROCEDURES + procedure);
     let pairs = pairtable::enter(table, count, row);
     if pairs == count {
         return count;
@@ -74,8 +72,8 @@ fn copy_agent(
     requires { ⌜ agents ≡ sizes (now draft) .agents ⌝ }
     requires { ⌜ reference < sizes (now draft) .agents ⌝ }
     requires { ⌜ Led (decodeDraft (now draft)) (places.target (decodeDraft (now draft)) reference (setIn (rowValue under))) ⌝ }
-    requires { ⌜ length (now table) ≡ 1088 ⌝ }
-    requires { ⌜ count ≤ 1088 ⌝ }
+    requires { ⌜ length (now table) ≡ mostPairs ⌝ }
+    requires { ⌜ count ≤ mostPairs ⌝ }
     requires { ⌜ Rising (keys count (now table)) ⌝ }
     requires { ⌜ ((k : ℕ) → List·Memᴰ k (keys count (now table)) → Led (decodeDraft (now draft)) k) ⌝ }
     ensures { λ r. ⌜ CopiedTo (decodeDraft (now (draft .entry))) (places.target (decodeDraft (now (draft .entry))) reference (setIn (rowValue under))) count (now (table .entry)) r (now (table .exit)) ⌝ }

@@ -1,6 +1,8 @@
+// The bytes of a draft: its check, and its agents.
 ghost use mathlib.Core.Path.{_≡_};
 ghost use Prim.Native.Nat.{_+_, _<_, _≤_};
 ghost use lib.ListN.{length, take};
+ghost use Rattle.tcc.specs.Limits.{mostAgents};
 ghost use Rattle.words.specs.Word.{words};
 ghost use Rattle.format.specs.Decode.{sizes};
 ghost use Rattle.scorefile.specs.Check.{verdict};
@@ -11,9 +13,6 @@ use format::Decoded;
 use tcc::Agent;
 use verdicts::Verdict;
 
-// The most bytes that a draft may have.
-const MOST_BYTES: usize = 5384;
-
 // Checks a draft: as a score in which each watch is a when.
 pub fn check(draft: &[u8]) -> Verdict
     ensures { λ r. ⌜ r ≡ draftVerdict (now (draft .entry)) ⌝ }
@@ -22,10 +21,10 @@ pub fn check(draft: &[u8]) -> Verdict
     if count < 4 {
         return Verdict::Length;
     }
-    if MOST_BYTES < count {
+    if format::MOST_BYTES < count {
         return Verdict::Length;
     }
-    let mut whens = [0u8; 5384];
+    let mut whens = [0u8; format::MOST_BYTES];
     let sizes = format::sizes_of(words::word_at(draft, 0));
     read_as_whens(draft, sizes.agents, &mut whens);
     check_part(&whens, count)
@@ -34,7 +33,7 @@ pub fn check(draft: &[u8]) -> Verdict
 // Copies a draft, with each watch as a when.
 fn read_as_whens(draft: &[u8], agents: usize, whens: &mut [u8])
     requires { ⌜ agents ≡ sizes (now draft) .agents ⌝ }
-    requires { ⌜ agents ≤ 1024 ⌝ }
+    requires { ⌜ agents ≤ mostAgents ⌝ }
     requires { ⌜ length (now draft) ≤ length (now whens) ⌝ }
     ensures { λ _. ⌜ take (length (now (draft .entry))) (now (whens .exit)) ≡ asWhens (now (draft .entry)) ⌝ }
 {
@@ -47,7 +46,7 @@ fn read_as_whens(draft: &[u8], agents: usize, whens: &mut [u8])
 
 // Byte n, with kind 15 as kind 7 where it is the highest byte of an agent word.
 fn when_byte(agents: usize, n: usize, b: u8) -> u8
-    requires { ⌜ agents ≤ 1024 ⌝ }
+    requires { ⌜ agents ≤ mostAgents ⌝ }
     ensures { λ r. ⌜ r ≡ whenByte agents n b ⌝ }
 {
     if n % 4 != 3 {

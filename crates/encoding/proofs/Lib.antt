@@ -1,4 +1,5 @@
 pub mod Fields
+pub mod Shifts
 pub mod WrittenWords
 pub mod ReadWords
 pub mod Bytes
@@ -6,3 +7,4 @@ pub mod Lists
 pub mod Places
 pub mod Written
 pub mod ReadBack
+pub mod Put

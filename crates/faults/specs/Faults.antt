@@ -6,6 +6,8 @@ use mathlib.Core.Bool.{cond, not, _||_}
 use mathlib.Core.List.{List, [], _∷_}
 use Prim.Native.Nat.{ℕ, suc, _+_, _-_, _%_}
 use lib.Dec.{eqb, ltb}
+use Rattle.tcc.specs.Limits.{mostRules}
+use Rattle.format.specs.Limits.{mostBytes}
 use Rattle.format.specs.declared.Sizes.{Sizes}
 use Rattle.format.specs.Format.{isWord, decodeAgent}
 use Rattle.verdicts.specs.declared.Verdict.{Verdict}
@@ -14,13 +16,13 @@ use Rattle.verdicts.specs.Verdicts.{orElse}
 use Rattle.wordfaults.specs.WordFaults.{portsVerdict, rootVerdict, ruleVerdict, agentVerdict}
 
 abbrev pub lengthVerdict : ℕ → Verdict
-lengthVerdict n = cond (eqb n 0 || not (eqb (n % 4) 0) || ltb 5384 n) Length Accepted
+lengthVerdict n = cond (eqb n 0 || not (eqb (n % 4) 0) || ltb mostBytes n) Length Accepted
 
 abbrev pub headVerdict : ℕ → Verdict
 headVerdict w = cond (isWord 1 24 w) Accepted Head
 
 abbrev pub countVerdict : Sizes → ℕ → Verdict
-countVerdict h n = cond (ltb n (2 + h .agents + h .procedures) || ltb (2 + h .agents + h .procedures + 256) n) Count Accepted
+countVerdict h n = cond (ltb n (2 + h .agents + h .procedures) || ltb (2 + h .agents + h .procedures + mostRules) n) Count Accepted
 
 unfoldable pub wordVerdict : Sizes → ℕ → ℕ → Verdict
 wordVerdict h k w =

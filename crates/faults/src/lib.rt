@@ -1,15 +1,12 @@
+// Rows 1 to 6 of the score check, over all bytes.
 ghost use mathlib.Core.Path.{_≡_};
 ghost use Prim.Native.Nat.{_≤_};
 ghost use lib.ListN.{drop};
+ghost use Rattle.tcc.specs.Limits.{mostAgents, mostProcedures};
 ghost use Rattle.words.specs.Word.{words};
 ghost use Rattle.faults.specs.Faults.{lengthVerdict, headVerdict, countVerdict, wordVerdict, firstFault};
 use format::Sizes;
 use verdicts::Verdict;
-
-// The most bytes that a score may have, and the most rules.
-const MOST_BYTES: usize = 5384;
-
-const MOST_RULES: usize = 256;
 
 // Row 1: the number of bytes.
 pub fn length_verdict(length: usize) -> Verdict
@@ -21,7 +18,7 @@ pub fn length_verdict(length: usize) -> Verdict
     if length % 4 != 0 {
         return Verdict::Length;
     }
-    if MOST_BYTES < length {
+    if format::MOST_BYTES < length {
         return Verdict::Length;
     }
     Verdict::Accepted
@@ -40,15 +37,15 @@ pub fn head_verdict(w: u32) -> Verdict
 
 // Row 3: the number of words.
 pub fn count_verdict(sizes: Sizes, count: usize) -> Verdict
-    requires { ⌜ sizes .agents ≤ 1024 ⌝ }
-    requires { ⌜ sizes .procedures ≤ 64 ⌝ }
+    requires { ⌜ sizes .agents ≤ mostAgents ⌝ }
+    requires { ⌜ sizes .procedures ≤ mostProcedures ⌝ }
     ensures { λ r. ⌜ r ≡ countVerdict sizes count ⌝ }
 {
     let least = 2 + sizes.agents + sizes.procedures;
     if count < least {
         return Verdict::Count;
     }
-    if least + MOST_RULES < count {
+    if least + tcc::MOST_RULES < count {
         return Verdict::Count;
     }
     Verdict::Accepted
@@ -56,8 +53,8 @@ pub fn count_verdict(sizes: Sizes, count: usize) -> Verdict
 
 // Rows 4 to 6: the lowest word that is not as its place asks.
 pub fn first_fault(s: &[u8], sizes: Sizes) -> Verdict
-    requires { ⌜ sizes .agents ≤ 1024 ⌝ }
-    requires { ⌜ sizes .procedures ≤ 64 ⌝ }
+    requires { ⌜ sizes .agents ≤ mostAgents ⌝ }
+    requires { ⌜ sizes .procedures ≤ mostProcedures ⌝ }
     ensures { λ r. ⌜ r ≡ firstFault sizes 1 (drop 1 (words (now (s .entry)))) ⌝ }
 {
     let count = words::word_count(s);
@@ -74,8 +71,8 @@ pub fn first_fault(s: &[u8], sizes: Sizes) -> Verdict
 
 // Word k, judged by its place.
 fn word_verdict(sizes: Sizes, k: usize, w: u32) -> Verdict
-    requires { ⌜ sizes .agents ≤ 1024 ⌝ }
-    requires { ⌜ sizes .procedures ≤ 64 ⌝ }
+    requires { ⌜ sizes .agents ≤ mostAgents ⌝ }
+    requires { ⌜ sizes .procedures ≤ mostProcedures ⌝ }
     ensures { λ r. ⌜ r ≡ wordVerdict sizes k w ⌝ }
 {
     if k < 2 {

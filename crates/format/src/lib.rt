@@ -1,3 +1,4 @@
+// The words of a score: fields, agents and rules read from them.
 ghost use mathlib.Core.Path.{_≡_};
 ghost use Prim.Native.Nat.{_+_, _<_};
 ghost use lib.ListN.{length};
@@ -6,6 +7,9 @@ ghost use Rattle.words.specs.Word.{words, field};
 ghost use Rattle.format.specs.Format.{clear, isWord, sizesOf, formed, decodeAgent, isFact, isRule};
 ghost use Rattle.format.specs.Decode.{sizes, decode};
 use tcc::Agent;
+
+// The most bytes that a score may have.
+pub const MOST_BYTES: usize = 4 * (2 + tcc::MOST_AGENTS + tcc::MOST_PROCEDURES + tcc::MOST_RULES);
 
 // How many tokens, agents and procedures a score has.
 pub struct Sizes {

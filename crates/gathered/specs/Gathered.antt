@@ -8,6 +8,7 @@ use Prim.Native.Nat.{ℕ, _≤_}
 use lib.ListN.{length}
 use Rattle.words.specs.Word.{words}
 use Rattle.format.specs.Decode.{sizes}
+use Rattle.pairs.specs.Pairs.{mostPairs}
 use Rattle.pairtable.specs.Tables.{keys}
 use Rattle.translation.specs.Places.{places, agentPlaces, procedurePlaces}
 use Rattle.translation.specs.Plain.{askedSets, plainOf, fits}
@@ -32,11 +33,11 @@ pub record Gathered (s : List ℕ) (n : Counts) (table sets : List (List ℕ)) :
   pub agents-are : n .agents ≡ sizes s .agents
   pub procedures-are : n .procedures ≡ sizes s .procedures
   pub words-are : n .words ≡ length (words s)
-  pub pairs-fit : n .pairs ≤ 1088
+  pub pairs-fit : n .pairs ≤ mostPairs
   pub pairs-are : keys (n .pairs) table ≡ places (decodeDraft s)
   pub copied-are : n .copied ≡ length (agentsIn s)
-  pub sets-fit : n .sets ≤ 1088
+  pub sets-fit : n .sets ≤ mostPairs
   pub sets-are : keys (n .sets) sets ≡ setsIn s
   pub fitting : fits (plainOf (decodeDraft s)) ≡ true
-  pub table-long : length table ≡ 1088
-  pub sets-long : length sets ≡ 1088
+  pub table-long : length table ≡ mostPairs
+  pub sets-long : length sets ≡ mostPairs

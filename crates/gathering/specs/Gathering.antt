@@ -6,8 +6,10 @@ use mathlib.Core.Bool.{false}
 use mathlib.Core.List.{List}
 use Prim.Native.Nat.{ℕ, _≤_}
 use lib.ListN.{length}
+use Rattle.tcc.specs.Limits.{mostAgents, mostProcedures}
 use Rattle.format.specs.declared.Sizes.{Sizes}
 use Rattle.format.specs.Decode.{sizes}
+use Rattle.pairs.specs.Pairs.{mostPairs}
 use Rattle.pairtable.specs.Tables.{keys}
 use Rattle.translation.specs.Places.{places}
 use Rattle.translation.specs.Plain.{plainOf, fits}
@@ -20,12 +22,12 @@ use Rattle.gathering.specs.declared.Gathering.the-variants.{Large, Fits}
 pub record PairsFit (s : List ℕ) (head : Sizes) (table : List (List ℕ)) (pairs copied : ℕ) : Type 0 where
   pub accepted : draftVerdict s ≡ Accepted
   pub head-is : head ≡ sizes s
-  pub pairs-fit : pairs ≤ 1088
+  pub pairs-fit : pairs ≤ mostPairs
   pub pairs-are : keys pairs table ≡ places (decodeDraft s)
-  pub copied-fit : copied ≤ 1024
+  pub copied-fit : copied ≤ mostAgents
   pub copied-are : keys copied table ≡ agentsIn s
-  pub procedures-fit : length (proceduresIn s) ≤ 64
-  pub table-long : length table ≡ 1088
+  pub procedures-fit : length (proceduresIn s) ≤ mostProcedures
+  pub table-long : length table ≡ mostPairs
 
 abbrev pub GatheredBy : List ℕ → List (List ℕ) → List (List ℕ) → Gathering → Type 0
 GatheredBy s table sets Large = fits (plainOf (decodeDraft s)) ≡ false

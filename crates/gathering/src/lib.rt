@@ -1,23 +1,13 @@
+// The pairs and the asked sets of a draft, gathered in two tables.
 ghost use mathlib.Core.Path.{_≡_};
 ghost use lib.ListN.{length};
 ghost use Rattle.verdicts.specs.declared.Verdict.the-variants.{Accepted};
+ghost use Rattle.pairs.specs.Pairs.{mostPairs};
 ghost use Rattle.draftfile.specs.DraftFile.{draftVerdict};
 ghost use Rattle.gathering.specs.Gathering.{PairsFit, GatheredBy};
 use format::Sizes;
 use gathered::Counts;
 use pairtable::Table;
-
-// The most that a plain score can have.
-const MOST_TOKENS: usize = 256;
-
-const MOST_AGENTS: usize = 1024;
-
-const MOST_PROCEDURES: usize = 64;
-
-const MOST_RULES: usize = 256;
-
-// The number of procedure 0 in a pair: procedures come after the agents.
-const PROCEDURES: usize = 1024;
 
 // What is gathered of a draft.
 pub enum Gathering {
@@ -30,8 +20,8 @@ pub enum Gathering {
 // Gathers the pairs and the asked sets of an accepted draft in two tables.
 pub fn gather(draft: &[u8], table: &mut Table, sets: &mut Table) -> Gathering
     requires { ⌜ draftVerdict (now draft) ≡ Accepted ⌝ }
-    requires { ⌜ length (now table) ≡ 1088 ⌝ }
-    requires { ⌜ length (now sets) ≡ 1088 ⌝ }
+    requires { ⌜ length (now table) ≡ mostPairs ⌝ }
+    requires { ⌜ length (now sets) ≡ mostPairs ⌝ }
     ensures { λ r. ⌜ GatheredBy (now (draft .entry)) (now (table .exit)) (now (sets .exit)) r ⌝ }
 {
     let head = format::sizes_of(words::word_at(draft, 0));
@@ -39,11 +29,11 @@ pub fn gather(draft: &[u8], table: &mut Table, sets: &mut Table) -> Gathering
     if pairtable::MOST < pairs {
         return Gathering::Large;
     }
-    let copied = pairtable::place(table, pairs, rows::row_of(PROCEDURES));
-    if MOST_AGENTS < copied {
+    let copied = pairtable::place(table, pairs, rows::row_of(pairtable::PROCEDURES));
+    if tcc::MOST_AGENTS < copied {
         return Gathering::Large;
     }
-    if MOST_PROCEDURES < pairs - copied {
+    if tcc::MOST_PROCEDURES < pairs - copied {
         return Gathering::Large;
     }
     gather_sets(draft, head, table, sets, pairs, copied)
@@ -59,16 +49,16 @@ fn gather_sets(
     copied: usize,
 ) -> Gathering
     requires { ⌜ PairsFit (now draft) head (now table) pairs copied ⌝ }
-    requires { ⌜ length (now sets) ≡ 1088 ⌝ }
+    requires { ⌜ length (now sets) ≡ mostPairs ⌝ }
     ensures { λ r. ⌜ GatheredBy (now (draft .entry)) (now (table .entry)) (now (sets .exit)) r ⌝ }
 {
     let count = asking::enter_asked(draft, head.tokens, table, copied, sets);
-    if MOST_TOKENS < head.tokens + count {
+    if tcc::MOST_TOKENS < head.tokens + count {
         return Gathering::Large;
     }
     let words = words::word_count(draft);
     let rules = words - (2 + head.agents + head.procedures);
-    if MOST_RULES < rules + asking::member_count(sets, count, head.tokens) {
+    if tcc::MOST_RULES < rules + asking::member_count(sets, count, head.tokens) {
         return Gathering::Large;
     }
     Gathering::Fits(Counts {

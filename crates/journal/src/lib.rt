@@ -1,15 +1,17 @@
+// The words of an instant in a journal, counted and written.
 ghost use mathlib.Core.Path.{_≡_};
 ghost use mathlib.Core.Bool.{false};
 ghost use mathlib.Core.List.{map, _++_};
 ghost use Prim.Native.Nat.{ℕ, _+_, _*_, _^_, _≤_, _<_};
 ghost use lib.ListN.{length, getD, take, drop};
+ghost use Rattle.tcc.specs.Limits.{mostTokens};
 ghost use Rattle.flags.specs.Flags.{setOf};
 ghost use Rattle.bits.specs.Bits.{bytesOf};
 ghost use Rattle.journal.specs.History.{instantWords};
 
 // How many bytes the words of an instant take.
 pub fn size(tokens: usize, inputs: &[bool], outputs: &[bool]) -> usize
-    requires { ⌜ tokens ≤ 256 ⌝ }
+    requires { ⌜ tokens ≤ mostTokens ⌝ }
     requires { ⌜ tokens ≤ length (now inputs) ⌝ }
     requires { ⌜ tokens ≤ length (now outputs) ⌝ }
     requires { ⌜ ((i : ℕ) → tokens ≤ i → getD (now inputs) i false ≡ false) ⌝ }
@@ -39,7 +41,7 @@ fn count(tokens: usize, set: &[bool]) -> usize
 // Writes the words of an instant at the front of a journal that has room for them.
 pub fn write(journal: &mut [u8], status: usize, tokens: usize, inputs: &[bool], outputs: &[bool])
     requires { ⌜ status < 4 ⌝ }
-    requires { ⌜ tokens ≤ 256 ⌝ }
+    requires { ⌜ tokens ≤ mostTokens ⌝ }
     requires { ⌜ tokens ≤ length (now inputs) ⌝ }
     requires { ⌜ tokens ≤ length (now outputs) ⌝ }
     requires { ⌜ ((i : ℕ) → tokens ≤ i → getD (now inputs) i false ≡ false) ⌝ }
@@ -56,7 +58,7 @@ pub fn write(journal: &mut [u8], status: usize, tokens: usize, inputs: &[bool], 
 // Writes a word of a kind for each token of a set, from word `from` on, and says which word comes next.
 fn put_tokens(journal: &mut [u8], from: usize, kind: u32, tokens: usize, set: &[bool]) -> usize
     requires { ⌜ kind < 16 ⌝ }
-    requires { ⌜ tokens ≤ 256 ⌝ }
+    requires { ⌜ tokens ≤ mostTokens ⌝ }
     requires { ⌜ ((i : ℕ) → tokens ≤ i → getD (now set) i false ≡ false) ⌝ }
     requires { ⌜ tokens ≤ length (now set) ⌝ }
     requires { ⌜ 4 * (from + length (setOf (now set))) ≤ length (now journal) ⌝ }

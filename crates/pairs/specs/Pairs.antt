@@ -1,4 +1,5 @@
 -- Pairs of an agent or a procedure and a set of tokens, and rising lists of numbers.
+--     mostPairs             the most pairs that a plain score can have: of each agent and each procedure one
 --     pair                  a pair as one number: pairs compare "by old number and then by set"
 --     numberIn, setIn       its parts
 --     insert, insertAll     numbers put into a rising list, each once
@@ -7,6 +8,10 @@ use mathlib.Core.Bool.{cond}
 use mathlib.Core.List.{List, [], _∷_}
 use Prim.Native.Nat.{ℕ, suc, _+_, _*_, _/_, _%_, _^_}
 use lib.Dec.{eqb, ltb}
+use Rattle.tcc.specs.Limits.{mostAgents, mostProcedures}
+
+abbrev pub mostPairs : ℕ
+mostPairs = mostAgents + mostProcedures
 
 -- a set is a number below 2 to the power of 256
 unfoldable pub pair : ℕ → ℕ → ℕ

@@ -9,6 +9,7 @@ use Prim.Native.Nat.{ℕ, _+_, _/_, _%_, _^_}
 use lib.Dec.{eqb, ltb}
 use lib.ListN.{length}
 use Rattle.laws.specs.Sets.{below, keep}
+use Rattle.tcc.specs.Limits.{mostTokens}
 
 unfoldable pub holds : ℕ → ℕ → Bool
 holds set t = eqb (set / 2 ^ t % 2) 1
@@ -16,9 +17,8 @@ holds set t = eqb (set / 2 ^ t % 2) 1
 unfoldable pub with : ℕ → ℕ → ℕ
 with t set = cond (holds set t) set (set + 2 ^ t)
 
--- a score has at most 256 tokens
 unfoldable pub members : ℕ → List ℕ
-members set = keep (λ t. holds set t) (below 256)
+members set = keep (λ t. holds set t) (below mostTokens)
 
 abbrev pub several : ℕ → Bool
 several set = ltb 1 (length (members set))

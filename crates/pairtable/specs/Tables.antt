@@ -7,7 +7,7 @@ use mathlib.Core.Path.{_≡_}
 use mathlib.Core.List.{List, [], map, List·Memᴰ}
 use Prim.Native.Nat.{ℕ, _+_, _<_, _≤_}
 use lib.ListN.{length, take, getD}
-use Rattle.pairs.specs.Pairs.{insert}
+use Rattle.pairs.specs.Pairs.{mostPairs, insert}
 use Rattle.rows.specs.Rows.{rowValue}
 
 abbrev pub keys : ℕ → List (List ℕ) → List ℕ
@@ -20,9 +20,9 @@ pub record Placed (l : List ℕ) (key at : ℕ) : Type 0 where
 
 pub record Entered (key count : ℕ) (before after : List (List ℕ)) (r : ℕ) : Type 0 where
   pub long : length after ≡ length before
-  pub most : r ≤ 1089
-  pub room : r ≤ 1088 → (keys r after ≡ insert key (keys count before)) × (r ≡ length (insert key (keys count before)))
-  pub full : 1088 < r → (count ≡ 1088) × (List·Memᴰ key (keys count before) → ⊥)
+  pub most : r ≤ mostPairs + 1
+  pub room : r ≤ mostPairs → (keys r after ≡ insert key (keys count before)) × (r ≡ length (insert key (keys count before)))
+  pub full : mostPairs < r → (count ≡ mostPairs) × (List·Memᴰ key (keys count before) → ⊥)
 
 pub record RoomMade (count at : ℕ) (before after : List (List ℕ)) : Type 0 where
   pub long : length after ≡ length before

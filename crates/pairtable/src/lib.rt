@@ -1,22 +1,27 @@
+// A table of pairs in rising order.
 ghost use mathlib.Core.Path.{_≡_};
 ghost use Prim.Native.Nat.{_+_, _<_, _≤_};
 ghost use lib.ListN.{length, take, drop};
 ghost use mathlib.Core.List.{_++_};
+ghost use Rattle.pairs.specs.Pairs.{mostPairs};
 ghost use Rattle.pairs.specs.Rising.{Rising};
 ghost use Rattle.rows.specs.Rows.{rowValue};
 ghost use Rattle.pairtable.specs.Tables.{keys, Placed, Entered, RoomMade};
 use rows::Row;
 
 // Pairs in rising order, each once; those in use come first.
-pub type Table = [Row; 1088];
+pub type Table = [Row; MOST];
 
-// The most pairs that a plain score can have: 1,024 agents and 64 procedures.
-pub const MOST: usize = 1088;
+// The most pairs that a plain score can have.
+pub const MOST: usize = tcc::MOST_AGENTS + tcc::MOST_PROCEDURES;
+
+// The number of procedure 0 in a pair: procedures come after the agents.
+pub const PROCEDURES: usize = tcc::MOST_AGENTS;
 
 // How many of the pairs in use stand before a pair.
 pub fn place(table: &Table, count: usize, row: Row) -> usize
-    requires { ⌜ length (now table) ≡ 1088 ⌝ }
-    requires { ⌜ count ≤ 1088 ⌝ }
+    requires { ⌜ length (now table) ≡ mostPairs ⌝ }
+    requires { ⌜ count ≤ mostPairs ⌝ }
     requires { ⌜ Rising (keys count (now table)) ⌝ }
     ensures { λ r. ⌜ Placed (keys count (now (table .entry))) (rowValue row) r ⌝ }
 {
@@ -36,8 +41,8 @@ pub fn place(table: &Table, count: usize, row: Row) -> usize
 // Enters a pair, and says how many there then are: as many as before where it is there already, and more than the most
 // where there is no room.
 pub fn enter(table: &mut Table, count: usize, row: Row) -> usize
-    requires { ⌜ length (now table) ≡ 1088 ⌝ }
-    requires { ⌜ count ≤ 1088 ⌝ }
+    requires { ⌜ length (now table) ≡ mostPairs ⌝ }
+    requires { ⌜ count ≤ mostPairs ⌝ }
     requires { ⌜ Rising (keys count (now table)) ⌝ }
     ensures { λ r. ⌜ Entered (rowValue row) count (now (table .entry)) (now (table .exit)) r ⌝ }
 {
@@ -57,8 +62,8 @@ pub fn enter(table: &mut Table, count: usize, row: Row) -> usize
 
 // Moves the pairs from a place on one place up.
 fn make_room(table: &mut Table, count: usize, at: usize)
-    requires { ⌜ length (now table) ≡ 1088 ⌝ }
-    requires { ⌜ count < 1088 ⌝ }
+    requires { ⌜ length (now table) ≡ mostPairs ⌝ }
+    requires { ⌜ count < mostPairs ⌝ }
     requires { ⌜ at ≤ count ⌝ }
     ensures { λ _. ⌜ RoomMade count at (now (table .entry)) (now (table .exit)) ⌝ }
 {

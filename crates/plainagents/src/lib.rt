@@ -1,3 +1,4 @@
+// The agents of a plain score.
 ghost use mathlib.Core.Path.{_≡_};
 ghost use mathlib.Core.List.{List·Memᴰ};
 ghost use Prim.Native.Nat.{_<_};
@@ -106,6 +107,6 @@ fn plain_call(
     requires { ⌜ writtenAt (decodeDraft (now draft)) (numberIn (rowValue row)) ≡ Plain (Call procedure) ⌝ }
     ensures { λ r. ⌜ r ≡ plainAgent (decodeDraft (now (draft .entry))) (agentsIn (now (draft .entry))) (proceduresIn (now (draft .entry))) (setsIn (now (draft .entry))) (setIn (rowValue row)) (Call procedure) ⌝ }
 {
-    let called = rows::renumbered(row, 1024 + procedure);
+    let called = rows::renumbered(row, pairtable::PROCEDURES + procedure);
     Agent::Call(pairtable::place(table, n.pairs, called) - n.copied)
 }

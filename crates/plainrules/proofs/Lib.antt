@@ -1,4 +1,3 @@
-pub mod Put
 pub mod Members
 pub mod Rules
 pub mod Asked

@@ -21,11 +21,12 @@ use Rattle.tcc.specs.Closure.{Rule}
 use Rattle.bits.specs.Bits.{bytesOf}
 use Rattle.drafts.proofs.Carries.{memberRule}
 use Rattle.encoding.specs.Encode.{ruleWord}
+use Rattle.encoding.specs.Put.{put}
+use Rattle.encoding.proofs.Put.{put-then, put-next}
 use Rattle.pairs.specs.TokenSets.{holds, members}
 use Rattle.pairs.proofs.TokenSets.{holds-member}
 use Rattle.translation.specs.Plain.{memberRules}
-use Rattle.plainrules.specs.Put.{put, setRules}
-use Rattle.plainrules.proofs.Put.{put-then, put-next}
+use Rattle.plainrules.specs.SetRules.{setRules}
 
 below-add : (m n : ℕ) → below (m + n) ≡ below m ++ map (λ j. m + j) (below n)
 below-add m zero = ap below (add-zero m) ∙ sym (append-nil (below m))

@@ -1,15 +1,19 @@
+// The rules of a plain score, written.
 ghost use mathlib.Core.Path.{_≡_};
 ghost use mathlib.Core.List.{map, List·Memᴰ};
 ghost use Prim.Native.Nat.{ℕ, _+_, _*_, _<_, _≤_};
 ghost use lib.ListN.{length};
+ghost use Rattle.tcc.specs.Limits.{mostTokens};
+ghost use Rattle.format.specs.Limits.{mostBytes};
 ghost use Rattle.pairs.specs.TokenSets.{members};
 ghost use Rattle.pairs.specs.Pairs.{setIn};
 ghost use Rattle.rows.specs.Rows.{rowValue};
 ghost use Rattle.translation.specs.Plain.{memberRules};
 ghost use Rattle.encoding.specs.Encode.{ruleWord};
+ghost use Rattle.encoding.specs.Put.{put};
 ghost use Rattle.draftfile.specs.DraftFile.{decodeDraft};
 ghost use Rattle.gathered.specs.Gathered.{Gathered, setsIn};
-ghost use Rattle.plainrules.specs.Put.{put, setRules};
+ghost use Rattle.plainrules.specs.SetRules.{setRules};
 use gathered::Counts;
 use pairtable::Table;
 use rows::Row;
@@ -41,7 +45,7 @@ pub fn put_members(
 ) -> usize
     requires { ⌜ Gathered (now draft) n (now table) (now sets) ⌝ }
     requires { ⌜ 4 * (from + length (memberRules (n .tokens) (setsIn (now draft)))) ≤ length (now plain) ⌝ }
-    requires { ⌜ length (now plain) ≤ 5384 ⌝ }
+    requires { ⌜ length (now plain) ≤ mostBytes ⌝ }
     ensures { λ _. ⌜ now (plain .exit) ≡ put from (map ruleWord (memberRules (n .tokens) (setsIn (now (draft .entry))))) (now (plain .entry)) ⌝ }
     ensures { λ r. ⌜ r ≡ from + length (memberRules (n .tokens) (setsIn (now (draft .entry)))) ⌝ }
 {
@@ -56,11 +60,11 @@ pub fn put_members(
 
 // Writes a rule from each member of a set, from a word on, and says which word comes next.
 fn put_set(plain: &mut [u8], from: usize, set: Row, tokens: usize, conclusion: usize) -> usize
-    requires { ⌜ tokens ≤ 256 ⌝ }
-    requires { ⌜ conclusion < 256 ⌝ }
+    requires { ⌜ tokens ≤ mostTokens ⌝ }
+    requires { ⌜ conclusion < mostTokens ⌝ }
     requires { ⌜ ((t : ℕ) → List·Memᴰ t (members (setIn (rowValue set))) → t < tokens) ⌝ }
     requires { ⌜ 4 * (from + length (members (setIn (rowValue set)))) ≤ length (now plain) ⌝ }
-    requires { ⌜ length (now plain) ≤ 5384 ⌝ }
+    requires { ⌜ length (now plain) ≤ mostBytes ⌝ }
     ensures { λ _. ⌜ now (plain .exit) ≡ put from (map ruleWord (setRules conclusion (setIn (rowValue set)))) (now (plain .entry)) ⌝ }
     ensures { λ r. ⌜ r ≡ from + length (members (setIn (rowValue set))) ⌝ }
 {
@@ -70,7 +74,7 @@ fn put_set(plain: &mut [u8], from: usize, set: Row, tokens: usize, conclusion: u
         let token = t;
         t += 1;
         if rows::has_token(set, token) {
-            let w = building::member_word(conclusion, token);
+            let w = encoding::member_word(conclusion, token);
             bits::put_word(plain, at, w);
             at += 1;
         }

@@ -1,16 +1,18 @@
+// The agents and procedures of a plain score, written.
 ghost use mathlib.Core.Path.{_≡_};
 ghost use mathlib.Core.List.{map, List·Memᴰ};
 ghost use Prim.Native.Nat.{_+_, _*_, _-_, _≤_};
 ghost use lib.ListN.{length};
+ghost use Rattle.tcc.specs.Limits.{mostAgents};
 ghost use Rattle.drafts.specs.Draft.{rootOf};
 ghost use Rattle.pairs.specs.Pairs.{numberIn, setIn, indexOf};
 ghost use Rattle.rows.specs.Rows.{rowValue};
 ghost use Rattle.translation.specs.Places as places;
 ghost use Rattle.translation.specs.Plain.{plainOf};
 ghost use Rattle.encoding.specs.Encode.{agentWord, rootWord};
+ghost use Rattle.encoding.specs.Put.{put};
 ghost use Rattle.draftfile.specs.DraftFile.{decodeDraft};
 ghost use Rattle.gathered.specs.Gathered.{Gathered, agentsIn, proceduresIn};
-ghost use Rattle.plainrules.specs.Put.{put};
 use gathered::Counts;
 use pairtable::Table;
 use rows::Row;
@@ -23,7 +25,7 @@ pub fn put_agents(plain: &mut [u8], draft: &[u8], table: &Table, sets: &Table, n
 {
     let mut k = 0;
     while k < n.copied {
-        let w = building::agent_word(plainagents::plain_agent(draft, table, sets, n, table[k]));
+        let w = encoding::agent_word(plainagents::plain_agent(draft, table, sets, n, table[k]));
         bits::put_word(plain, 2 + k, w);
         k += 1;
     }
@@ -39,7 +41,7 @@ pub fn put_procedures(plain: &mut [u8], draft: &[u8], table: &Table, sets: &Tabl
     let mut k = 0;
     while k < procedures {
         let at = n.copied + k;
-        let w = building::root_word(root_at(draft, table, sets, n, table[at]));
+        let w = encoding::root_word(root_at(draft, table, sets, n, table[at]));
         bits::put_word(plain, 2 + at, w);
         k += 1;
     }
@@ -49,8 +51,12 @@ pub fn put_procedures(plain: &mut [u8], draft: &[u8], table: &Table, sets: &Tabl
 fn root_at(draft: &[u8], table: &Table, sets: &Table, n: Counts, row: Row) -> usize
     requires { ⌜ Gathered (now draft) n (now table) (now sets) ⌝ }
     requires { ⌜ List·Memᴰ (rowValue row) (proceduresIn (now draft)) ⌝ }
-    ensures { λ r. ⌜ r ≡ indexOf (places.target (decodeDraft (now (draft .entry))) (rootOf (decodeDraft (now (draft .entry))) (numberIn (rowValue row) - 1024)) (setIn (rowValue row))) (agentsIn (now (draft .entry))) ⌝ }
+    ensures { λ r. ⌜ r ≡ indexOf (places.target (decodeDraft (now (draft .entry))) (rootOf (decodeDraft (now (draft .entry))) (numberIn (rowValue row) - mostAgents)) (setIn (rowValue row))) (agentsIn (now (draft .entry))) ⌝ }
 {
-    let root = format::root_of(draft, n.agents, rows::number_of(row) - 1024);
+    let root = format::root_of(
+        draft,
+        n.agents,
+        rows::number_of(row) - pairtable::PROCEDURES,
+    );
     plainagents::stands_at(draft, table, sets, n, row, root)
 }

@@ -4,7 +4,7 @@ ghost use Rattle.io.specs.Counts.{Counts};
 use libc::STDOUT_FILENO;
 
 // One byte more than a file may have. A longer file fills it, and is turned down since that is no multiple of 4.
-const SCORE_ROOM: usize = 5385;
+const SCORE_ROOM: usize = format::MOST_BYTES + 1;
 
 const INPUTS_ROOM: usize = 16385;
 

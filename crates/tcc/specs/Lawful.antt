@@ -4,18 +4,19 @@
 use mathlib.Core.List.{List, List·Memᴰ}
 use Prim.Native.Nat.{ℕ, _<_, _≤_}
 use lib.ListN.{length}
+use Rattle.tcc.specs.Limits.{mostTokens, mostAgents, mostProcedures, mostRules}
 use Rattle.tcc.specs.Closure.{Rule}
 use Rattle.tcc.specs.Score.{Score, agentAt, rootOf, tokensOf, partsOf, proceduresOf}
 use Rattle.tcc.specs.Unguarded.{Reaches}
 
 pub record Lawful (sc : Score) : Type 0 where
   pub some-tokens : 1 ≤ sc .tokens
-  pub most-tokens : sc .tokens ≤ 256
+  pub most-tokens : sc .tokens ≤ mostTokens
   pub some-agents : 1 ≤ length (sc .agents)
-  pub most-agents : length (sc .agents) ≤ 1024
+  pub most-agents : length (sc .agents) ≤ mostAgents
   pub some-roots : 1 ≤ length (sc .roots)
-  pub most-roots : length (sc .roots) ≤ 64
-  pub most-rules : length (sc .rules) ≤ 256
+  pub most-roots : length (sc .roots) ≤ mostProcedures
+  pub most-rules : length (sc .rules) ≤ mostRules
   pub ports-ordered : sc .lowest-port ≤ sc .highest-port
   pub ports-known : sc .highest-port < sc .tokens
   pub tokens-known : (i t : ℕ) → List·Memᴰ t (tokensOf (agentAt sc i)) → t < sc .tokens

@@ -1,3 +1,4 @@
+pub mod Limits
 pub mod Closure
 pub mod Score
 pub mod Unguarded

@@ -16,6 +16,7 @@ use lib.ListN.{length, drop}
 use Rattle.laws.proofs.Booleans.{by-test}
 use Rattle.laws.proofs.Sets.{Within, on-map}
 use Rattle.words.specs.Word.{field, words}
+use Rattle.format.specs.Limits.{mostBytes}
 use Rattle.format.specs.Format.{isFact, ruleOf}
 use Rattle.format.specs.Decode.{sizes, decode}
 use Rattle.verdicts.specs.declared.Verdict.the-variants.{Accepted}
@@ -31,7 +32,7 @@ use Rattle.encoding.specs.Encode.{RuleFormed, scoreBytes}
 use Rattle.encoding.proofs.Written as encoding
 use Rattle.draftfile.specs.DraftFile.{draftVerdict, decodeDraft}
 use Rattle.draftfile.proofs.Draft.{accepted-lawful-draft}
-use Rattle.translating.specs.TranslateCall.{plainBytes, Exit, kept, written, exit}
+use Rattle.translating.specs.TranslateCall.{Exit, kept, written, exit}
 
 rule-formed : (w : ℕ) → RuleFormed (ruleOf w)
 rule-formed w = by-test (λ l. RuleFormed (record { premises = l; conclusion = field w 0 8 })) (isFact w) (λ e. inl refl) (λ e. inr (field w 8 8, field w 16 8, refl))
@@ -40,7 +41,7 @@ rules-formed : (s : List ℕ) → Within RuleFormed (decodeDraft s .rules)
 unfolding decodeDraft
 rules-formed s = on-map RuleFormed ruleOf (drop (2 + sizes s .agents + sizes s .procedures) (words s)) (λ w m. rule-formed w)
 
-accepted-short : (s : List ℕ) → verdict s ≡ Accepted → length s ≤ plainBytes
+accepted-short : (s : List ℕ) → verdict s ≡ Accepted → length s ≤ mostBytes
 unfolding verdict
 accepted-short s e = length-accepted (length s) (ap numberOf (both-accepted (lengthVerdict (length s)) _ e .0)) .2
 
@@ -50,14 +51,14 @@ module _ (draft : List ℕ) (bytes : Within (λ b. b < 256) draft) (accepted : d
       let d = decodeDraft draft in
       encoding.written (plainOf d) (plain-lawful d (accepted-lawful-draft draft bytes accepted) fit) (plain-formed d (rules-formed draft))
 
-  pub plain-short : length (scoreBytes (plainOf (decodeDraft draft))) ≤ plainBytes
+  pub plain-short : length (scoreBytes (plainOf (decodeDraft draft))) ≤ mostBytes
   plain-short = accepted-short (scoreBytes (plainOf (decodeDraft draft))) (plain-written .0)
 
 pub data Outcome (draft before : List ℕ) : Exit → Type 0 where
   turned : (numberOf (draftVerdict draft) ≡ 0 → ⊥) → Outcome draft before (kept before (Turned (draftVerdict draft)))
-  lengths : draftVerdict draft ≡ Accepted → (length before ≡ plainBytes → ⊥) → Outcome draft before (kept before Lengths)
-  large : draftVerdict draft ≡ Accepted → length before ≡ plainBytes → fits (plainOf (decodeDraft draft)) ≡ false → Outcome draft before (kept before Large)
-  writes : draftVerdict draft ≡ Accepted → length before ≡ plainBytes → fits (plainOf (decodeDraft draft)) ≡ true → Outcome draft before (written before (plainOf (decodeDraft draft)))
+  lengths : draftVerdict draft ≡ Accepted → (length before ≡ mostBytes → ⊥) → Outcome draft before (kept before Lengths)
+  large : draftVerdict draft ≡ Accepted → length before ≡ mostBytes → fits (plainOf (decodeDraft draft)) ≡ false → Outcome draft before (kept before Large)
+  writes : draftVerdict draft ≡ Accepted → length before ≡ mostBytes → fits (plainOf (decodeDraft draft)) ≡ true → Outcome draft before (written before (plainOf (decodeDraft draft)))
 
 pub outcome : (draft before : List ℕ) → Outcome draft before (exit draft before)
 unfolding exit
@@ -65,6 +66,6 @@ outcome draft before =
     let number = numberOf (draftVerdict draft) in
     by-test (Outcome draft before) (not (eqb number 0)) (λ e. turned (eqb-false number 0 (not-true (eqb number 0) e)))
     (λ passed. let accepted = accepted-only (draftVerdict draft) (eqb-true number 0 (not-false (eqb number 0) passed)) in
-    by-test (Outcome draft before) (not (eqb (length before) plainBytes)) (λ e. lengths accepted (eqb-false (length before) plainBytes (not-true (eqb (length before) plainBytes) e)))
-    (λ right. let long = eqb-true (length before) plainBytes (not-false (eqb (length before) plainBytes) right) in
+    by-test (Outcome draft before) (not (eqb (length before) mostBytes)) (λ e. lengths accepted (eqb-false (length before) mostBytes (not-true (eqb (length before) mostBytes) e)))
+    (λ right. let long = eqb-true (length before) mostBytes (not-false (eqb (length before) mostBytes) right) in
     by-test (Outcome draft before) (fits (plainOf (decodeDraft draft))) (λ e. writes accepted long e) (λ e. large accepted long e)))

@@ -1,5 +1,4 @@
 -- What a translation does with what it is lent: numbers 1 to 7 of the draft, 8, 16.
---     plainBytes       the bytes that are lent for the plain score
 --     Exit             what they hold afterwards, and the reply
 --     kept             a refusal: all as it was
 --     written          the bytes of a plain score, "and bytes past it are as they were"
@@ -14,6 +13,7 @@ use Prim.Native.Nat.{ℕ}
 use lib.Dec.{eqb}
 use lib.ListN.{length, drop}
 use Rattle.tcc.specs.Score.{Score}
+use Rattle.format.specs.Limits.{mostBytes}
 use Rattle.verdicts.specs.Verdicts.{numberOf}
 use Rattle.drafts.specs.Draft.{Draft}
 use Rattle.translation.specs.Plain.{plainOf, fits}
@@ -21,9 +21,6 @@ use Rattle.encoding.specs.Encode.{scoreBytes}
 use Rattle.draftfile.specs.DraftFile.{draftVerdict, decodeDraft}
 use Rattle.translation.specs.declared.Reply.{Reply}
 use Rattle.translation.specs.declared.Reply.the-variants.{Draft as Turned, Lengths, Large, Written}
-
-abbrev pub plainBytes : ℕ
-plainBytes = 5384
 
 pub record Exit : Type 0 where
   pub plain : List ℕ
@@ -41,7 +38,7 @@ translated plain d = cond (fits (plainOf d)) (written plain (plainOf d)) (kept p
 unfoldable pub exit : List ℕ → List ℕ → Exit
 exit draft plain =
     cond (not (eqb (numberOf (draftVerdict draft)) 0)) (kept plain (Turned (draftVerdict draft)))
-    (cond (not (eqb (length plain) plainBytes)) (kept plain Lengths)
+    (cond (not (eqb (length plain) mostBytes)) (kept plain Lengths)
     (translated plain (decodeDraft draft)))
 
 -- what the translation of an accepted draft leaves in the buffer, and its reply

@@ -5,7 +5,7 @@ use mathlib.Core.List.{List, List·Memᴰ}
 use Prim.Native.Nat.{ℕ, _<_}
 use lib.ListN.{length}
 use Rattle.drafts.specs.Draft.{Draft}
-use Rattle.pairs.specs.Pairs.{pair}
+use Rattle.pairs.specs.Pairs.{mostPairs, pair}
 use Rattle.pairs.specs.Rising.{Rising}
 use Rattle.translation.specs.Places.{procedureAt, leadsTo}
 
@@ -17,4 +17,4 @@ pub record Overfull (d : Draft) : Type 0 where
   pub pairs : List ℕ
   pub rising : Rising pairs
   pub led : (k : ℕ) → List·Memᴰ k pairs → Led d k
-  pub many : 1088 < length pairs
+  pub many : mostPairs < length pairs

@@ -12,6 +12,7 @@ use mathlib.Core.List.{List, [], _∷_, List·Memᴰ}
 use mathlib.Core.Logic.{_⊎_}
 use Prim.Native.Nat.{ℕ, _+_, _<_}
 use lib.ListN.{length}
+use Rattle.tcc.specs.Limits.{mostTokens, mostAgents, mostProcedures, mostRules}
 use Rattle.tcc.specs.declared.Agent.{Agent}
 use Rattle.tcc.specs.declared.Agent.the-variants.{Next, Unless}
 use Rattle.drafts.specs.Draft.{Draft, writtenAt, LawfulDraft}
@@ -48,7 +49,7 @@ abbrev pub AskedMember : Draft → Asking → Type 0
 AskedMember d x = Asked d (x .set) × (holds (x .set) (x .token) ≡ true)
 
 abbrev pub Passes : Draft → Type 0
-Passes d = MoreThan 1024 0 (AgentPair d) ⊎ (MoreThan 64 0 (ProcedurePair d) ⊎ (MoreThan 256 (d .tokens) (Asked d) ⊎ MoreThan 256 (length (d .rules)) (AskedMember d)))
+Passes d = MoreThan mostAgents 0 (AgentPair d) ⊎ (MoreThan mostProcedures 0 (ProcedurePair d) ⊎ (MoreThan mostTokens (d .tokens) (Asked d) ⊎ MoreThan mostRules (length (d .rules)) (AskedMember d)))
 
 abbrev pub Limits : Type 0
 Limits = (d : Draft) → LawfulDraft d → (fits (plainOf d) ≡ false → Passes d) × (Passes d → fits (plainOf d) ≡ false)

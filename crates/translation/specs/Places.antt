@@ -1,6 +1,6 @@
 -- The pairs that the plain score is made of, computed: an agent other than a watch, or a procedure, with a set that it
 -- stands under.
---     procedureAt           a procedure's number in a pair: procedures come after agents, whose numbers are below 1,024
+--     procedureAt           a procedure's number in a pair: procedures come after agents, whose numbers are lower
 --     target                "a reference to a watch goes on to its body with the token added, through several watches if need be"
 --     leadsTo               the pairs that the references and calls of a pair lead to
 --     grown                 the pairs of a list and all that they lead to
@@ -12,15 +12,16 @@ use Prim.Native.Nat.{ℕ, zero, suc, _+_, _-_}
 use lib.Dec.{eqb, ltb, leb}
 use lib.ListN.{length}
 use Rattle.laws.specs.Sets.{keep}
+use Rattle.tcc.specs.Limits.{mostAgents}
 use Rattle.tcc.specs.Score.{partsOf, proceduresOf}
 use Rattle.drafts.specs.Draft.{Draft, writtenAt, rootOf}
 use Rattle.drafts.specs.declared.Written.{Written}
 use Rattle.drafts.specs.declared.Written.the-variants.{Plain, Watch}
 use Rattle.pairs.specs.TokenSets.{with}
-use Rattle.pairs.specs.Pairs.{pair, numberIn, setIn, insertAll}
+use Rattle.pairs.specs.Pairs.{mostPairs, pair, numberIn, setIn, insertAll}
 
 abbrev pub procedureAt : ℕ → ℕ
-procedureAt p = 1024 + p
+procedureAt p = mostAgents + p
 
 -- n bounds the watches passed: a body has a lower number than its agent
 abbrev pub targetWithin : Draft → ℕ → ℕ → ℕ → ℕ
@@ -35,7 +36,7 @@ agentLeads d set (Plain a) = map (λ b. target d b set) (partsOf a) ++ map (λ p
 agentLeads d set (Watch t b) = []
 
 unfoldable pub leadsTo : Draft → ℕ → List ℕ
-leadsTo d k = cond (ltb (numberIn k) 1024) (agentLeads d (setIn k) (writtenAt d (numberIn k))) (target d (rootOf d (numberIn k - 1024)) (setIn k) ∷ [])
+leadsTo d k = cond (ltb (numberIn k) mostAgents) (agentLeads d (setIn k) (writtenAt d (numberIn k))) (target d (rootOf d (numberIn k - mostAgents)) (setIn k) ∷ [])
 
 abbrev pub allLead : Draft → List ℕ → List ℕ
 allLead d [] = []
@@ -49,12 +50,12 @@ abbrev pub placesWithin : Draft → ℕ → List ℕ → List ℕ
 placesWithin d zero l = l
 placesWithin d (suc n) l = cond (eqb (length (grown d l)) (length l)) l (placesWithin d n (grown d l))
 
--- each turn adds a pair, and 1,024 agents and 64 procedures are all that a plain score can have
+-- each turn adds a pair, and a plain score can have no more than `mostPairs`
 unfoldable pub places : Draft → List ℕ
-places d = placesWithin d 1088 (pair (procedureAt 0) 0 ∷ [])
+places d = placesWithin d mostPairs (pair (procedureAt 0) 0 ∷ [])
 
 abbrev pub agentPlaces : List ℕ → List ℕ
-agentPlaces l = keep (λ k. ltb (numberIn k) 1024) l
+agentPlaces l = keep (λ k. ltb (numberIn k) mostAgents) l
 
 abbrev pub procedurePlaces : List ℕ → List ℕ
-procedurePlaces l = keep (λ k. leb 1024 (numberIn k)) l
+procedurePlaces l = keep (λ k. leb mostAgents (numberIn k)) l

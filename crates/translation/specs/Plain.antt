@@ -14,6 +14,7 @@ use Prim.Native.Nat.{ℕ, zero, suc, _+_, _-_}
 use lib.Dec.{eqb, leb}
 use lib.ListN.{length, getD}
 use Rattle.laws.specs.Sets.{keep}
+use Rattle.tcc.specs.Limits.{mostTokens, mostAgents, mostProcedures, mostRules}
 use Rattle.tcc.specs.Closure.{Rule}
 use Rattle.tcc.specs.Score.{Score}
 use Rattle.tcc.specs.declared.Agent.{Agent}
@@ -73,7 +74,7 @@ module _ (d : Draft) (agents procedures sets : List ℕ) where
         lowest-port = d .lowest-port;
         highest-port = d .highest-port;
         agents = map (λ k. plainAgent (setIn k) (agentIn d k)) agents;
-        roots = map (λ k. standsAt (setIn k) (rootOf d (numberIn k - 1024))) procedures;
+        roots = map (λ k. standsAt (setIn k) (rootOf d (numberIn k - mostAgents))) procedures;
         rules = d .rules ++ memberRules (d .tokens) sets;
       }
 
@@ -81,4 +82,4 @@ unfoldable pub plainOf : Draft → Score
 plainOf d = plainBy d (agentPlaces (places d)) (procedurePlaces (places d)) (askedSets d (agentPlaces (places d)))
 
 abbrev pub fits : Score → Bool
-fits sc = leb (sc .tokens) 256 && leb (length (sc .agents)) 1024 && leb (length (sc .roots)) 64 && leb (length (sc .rules)) 256
+fits sc = leb (sc .tokens) mostTokens && leb (length (sc .agents)) mostAgents && leb (length (sc .roots)) mostProcedures && leb (length (sc .rules)) mostRules

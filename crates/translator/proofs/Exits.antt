@@ -8,6 +8,7 @@ use Prim.Native.Nat.{ℕ}
 use borrow.Author.Tests.{eq-eqb, ne-eqb}
 use lib.ListN.{length, drop}
 use Rattle.laws.proofs.Booleans.{cond-true, cond-false}
+use Rattle.format.specs.Limits.{mostBytes}
 use Rattle.verdicts.specs.declared.Verdict.{Verdict}
 use Rattle.verdicts.specs.Verdicts.{numberOf}
 use Rattle.scorefile.proofs.Stages.{passed}
@@ -18,7 +19,7 @@ use Rattle.translation.specs.declared.Reply.{Reply}
 use Rattle.translation.specs.declared.Reply.the-variants.{Draft as Turned, Lengths, Large, Written}
 use Rattle.encoding.specs.Encode.{scoreBytes}
 use Rattle.draftfile.specs.DraftFile.{asWhens, draftVerdict, decodeDraft}
-use Rattle.translating.specs.TranslateCall.{plainBytes, kept, exit, LeftBy, TranslateCall}
+use Rattle.translating.specs.TranslateCall.{kept, exit, LeftBy, TranslateCall}
 
 module _ (draft before : List ℕ) where
   pub turned : {v : Verdict} {n : ℕ} → n ≡ numberOf v → v ≡ draftVerdict draft → (n ≡ 0 → ⊥) → kept before (Turned v) ≡ exit draft before
@@ -26,13 +27,13 @@ module _ (draft before : List ℕ) where
   turned number-is is not-zero = stages.turned (asWhens draft) number-is is (λ v. kept before (Turned v)) _ not-zero
 
   module _ (accepted : numberOf (draftVerdict draft) ≡ 0) where
-    pub lengths : (length before ≡ plainBytes → ⊥) → kept before Lengths ≡ exit draft before
+    pub lengths : (length before ≡ mostBytes → ⊥) → kept before Lengths ≡ exit draft before
     unfolding exit
-    lengths other = passed (asWhens draft) accepted _ (cond-true _ (ap not (ne-eqb (length before) plainBytes other)) refl)
+    lengths other = passed (asWhens draft) accepted _ (cond-true _ (ap not (ne-eqb (length before) mostBytes other)) refl)
 
-    pub translates : length before ≡ plainBytes → {after : List ℕ} {reply : Reply} → LeftBy (decodeDraft draft) before after reply → TranslateCall draft before after reply
+    pub translates : length before ≡ mostBytes → {after : List ℕ} {reply : Reply} → LeftBy (decodeDraft draft) before after reply → TranslateCall draft before after reply
     unfolding exit
-    translates long l = record { exits = passed (asWhens draft) accepted _ (cond-false _ (ap not (eq-eqb (length before) plainBytes long)) (l .leaves)) }
+    translates long l = record { exits = passed (asWhens draft) accepted _ (cond-false _ (ap not (eq-eqb (length before) mostBytes long)) (l .leaves)) }
 
 module _ (d : Draft) (before : List ℕ) where
   pub large : fits (plainOf d) ≡ false → LeftBy d before before Large

@@ -31,12 +31,12 @@ use Rattle.encoding.specs.Encode.{headWord, portsWord, agentWord, rootWord, rul
 use Rattle.encoding.proofs.ReadWords.{ports-again}
 use Rattle.encoding.proofs.ReadBack.{ports-formed}
 use Rattle.encoding.proofs.Written.{word-count}
+use Rattle.encoding.specs.Put.{put}
+use Rattle.encoding.proofs.Put.{put-then, put-next}
 use Rattle.draftfile.specs.DraftFile.{asWhens, draftVerdict, decodeDraft}
 use Rattle.draftfile.proofs.Draft.{words-kept}
 use Rattle.gathered.specs.declared.Counts.{Counts}
 use Rattle.gathered.specs.Gathered.{setsIn, Gathered}
-use Rattle.plainrules.specs.Put.{put}
-use Rattle.plainrules.proofs.Put.{put-then, put-next}
 use Rattle.plainrules.proofs.Rules.{gathered-rules}
 use Rattle.plainrules.proofs.Asked.{sets-many}
 use Rattle.plainwords.proofs.Pairs.{agents-many, procedures-many}

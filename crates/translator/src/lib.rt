@@ -1,19 +1,18 @@
+// The translation of a draft over lent buffers.
 ghost use mathlib.Core.Path.{_≡_};
 ghost use mathlib.Core.List.{_++_};
 ghost use lib.ListN.{length, drop};
+ghost use Rattle.format.specs.Limits.{mostBytes};
 ghost use Rattle.verdicts.specs.declared.Verdict.the-variants.{Accepted};
 ghost use Rattle.translation.specs.Plain.{plainOf};
 ghost use Rattle.encoding.specs.Encode.{scoreBytes};
 ghost use Rattle.draftfile.specs.DraftFile.{draftVerdict, decodeDraft};
 ghost use Rattle.gathered.specs.Gathered.{Gathered};
-ghost use Rattle.translating.specs.TranslateCall.{plainBytes, TranslateCall, LeftBy};
+ghost use Rattle.translating.specs.TranslateCall.{TranslateCall, LeftBy};
 use gathered::Counts;
 use gathering::Gathering;
 use pairtable::Table;
 use translation::Reply;
-
-// The bytes that are lent for the plain score.
-pub const PLAIN_BYTES: usize = 5384;
 
 // Translates a draft to a plain score, into a lent buffer.
 pub fn call(draft: &[u8], plain: &mut [u8]) -> Reply
@@ -23,7 +22,7 @@ pub fn call(draft: &[u8], plain: &mut [u8]) -> Reply
     if verdicts::number_of(verdict) != 0 {
         return Reply::Draft(verdict);
     }
-    if plain.len() != PLAIN_BYTES {
+    if plain.len() != format::MOST_BYTES {
         return Reply::Lengths;
     }
     translate(draft, plain)
@@ -32,11 +31,11 @@ pub fn call(draft: &[u8], plain: &mut [u8]) -> Reply
 // Translates an accepted draft.
 fn translate(draft: &[u8], plain: &mut [u8]) -> Reply
     requires { ⌜ draftVerdict (now draft) ≡ Accepted ⌝ }
-    requires { ⌜ length (now plain) ≡ plainBytes ⌝ }
+    requires { ⌜ length (now plain) ≡ mostBytes ⌝ }
     ensures { λ r. ⌜ LeftBy (decodeDraft (now (draft .entry))) (now (plain .entry)) (now (plain .exit)) r ⌝ }
 {
-    let mut table = [[0u64; 5]; 1088];
-    let mut sets = [[0u64; 5]; 1088];
+    let mut table = [[0u64; 5]; pairtable::MOST];
+    let mut sets = [[0u64; 5]; pairtable::MOST];
     match gathering::gather(draft, &mut table, &mut sets) {
         Gathering::Large => Reply::Large,
         Gathering::Fits(counts) => Reply::Written(write(draft, &table, &sets, counts, plain)),
@@ -46,14 +45,14 @@ fn translate(draft: &[u8], plain: &mut [u8]) -> Reply
 // Writes the plain score, and says how many bytes it has.
 fn write(draft: &[u8], table: &Table, sets: &Table, n: Counts, plain: &mut [u8]) -> usize
     requires { ⌜ Gathered (now draft) n (now table) (now sets) ⌝ }
-    requires { ⌜ length (now plain) ≡ plainBytes ⌝ }
+    requires { ⌜ length (now plain) ≡ mostBytes ⌝ }
     ensures { λ _. ⌜ now (plain .exit) ≡ scoreBytes (plainOf (decodeDraft (now (draft .entry)))) ++ drop (length (scoreBytes (plainOf (decodeDraft (now (draft .entry)))))) (now (plain .entry)) ⌝ }
     ensures { λ r. ⌜ r ≡ length (scoreBytes (plainOf (decodeDraft (now (draft .entry))))) ⌝ }
 {
     bits::put_word(
         plain,
         0,
-        building::head_word(n.tokens + n.sets, n.copied, n.pairs - n.copied),
+        encoding::head_word(n.tokens + n.sets, n.copied, n.pairs - n.copied),
     );
     bits::put_word(plain, 1, words::word_at(draft, 1));
     plainwords::put_agents(plain, draft, table, sets, n);

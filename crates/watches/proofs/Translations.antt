@@ -14,6 +14,7 @@ use Prim.Native.Nat.{ℕ}
 use native.Mathlib.Omega.{arith}
 use lib.ListN.{length, take, drop, take-append-drop}
 use lib.Seq.{take-at}
+use Rattle.format.specs.Limits.{mostBytes}
 use Rattle.format.specs.Decode.{decode}
 use Rattle.verdicts.specs.declared.Verdict.the-variants.{Accepted}
 use Rattle.verdicts.specs.Verdicts as verdicts
@@ -24,7 +25,7 @@ use Rattle.translation.specs.Plain.{plainOf, fits}
 use Rattle.encoding.specs.Encode.{scoreBytes}
 use Rattle.draftfile.specs.DraftFile.{draftVerdict, decodeDraft}
 use Rattle.draftfile.proofs.Draft.{accepted-lawful-draft}
-use Rattle.translating.specs.TranslateCall.{plainBytes, Exit, exit}
+use Rattle.translating.specs.TranslateCall.{Exit, exit}
 use Rattle.translating.proofs.Plain.{plain-written, Outcome, turned, lengths, large, writes, outcome}
 use Rattle.answer.specs.Answer.{numberOf, valueOf, numberIn, valueIn}
 use Rattle.answer.specs.Replies.{ofTranslation}
@@ -41,7 +42,7 @@ pub record Wrote (draft before after : List ℕ) (answer : ℕ) : Type 0 where
   pub plain : after ≡ scoreBytes (plainOf (decodeDraft draft)) ++ drop (length (scoreBytes (plainOf (decodeDraft draft)))) before
 
 pub data Ended (draft before after : List ℕ) (answer : ℕ) : Type 0 where
-  refused : (numberIn answer ≡ 0 → ⊥) → (numberIn answer ≡ 16 → ⊥) → (draftVerdict draft ≡ Accepted → length before ≡ plainBytes → ⊥) → after ≡ before → Ended draft before after answer
+  refused : (numberIn answer ≡ 0 → ⊥) → (numberIn answer ≡ 16 → ⊥) → (draftVerdict draft ≡ Accepted → length before ≡ mostBytes → ⊥) → after ≡ before → Ended draft before after answer
   over : fits (plainOf (decodeDraft draft)) ≡ false → numberIn answer ≡ 16 → after ≡ before → Ended draft before after answer
   wrote : Wrote draft before after answer → Ended draft before after answer
 

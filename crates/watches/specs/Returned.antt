@@ -4,10 +4,10 @@ use mathlib.Core.Path.{_≡_}
 use mathlib.Core.List.{List, _++_}
 use Prim.Native.Nat.{ℕ}
 use lib.ListN.{length, drop}
+use Rattle.format.specs.Limits.{mostBytes}
 use Rattle.verdicts.specs.declared.Verdict.the-variants.{Accepted}
 use Rattle.scorefile.specs.Check.{verdict}
 use Rattle.translation.specs.Unchanged.{AllOnPaths}
-use Rattle.translating.specs.TranslateCall.{plainBytes}
 use Rattle.draftfile.specs.DraftFile.{decodeDraft}
 use Rattle.answer.specs.Answer.{numberIn, valueIn}
 use Rattle.score.specs.ScoreTranslate.{ScoreTranslate}
@@ -15,6 +15,6 @@ use Rattle.score.specs.ScoreTranslate.{ScoreTranslate}
 -- a score that the score check accepts has no watches
 abbrev pub Returned : Type 0
 Returned =
-    (score before after : List ℕ) (answer : ℕ) → verdict score ≡ Accepted → AllOnPaths (decodeDraft score) → length before ≡ plainBytes →
+    (score before after : List ℕ) (answer : ℕ) → verdict score ≡ Accepted → AllOnPaths (decodeDraft score) → length before ≡ mostBytes →
     ScoreTranslate score before after answer →
     (numberIn answer ≡ 0) × (valueIn answer ≡ length score) × (after ≡ score ++ drop (length score) before)

@@ -5,14 +5,14 @@ use mathlib.Core.Path.{_≡_}
 use mathlib.Core.List.{List}
 use Prim.Native.Nat.{ℕ}
 use lib.ListN.{length}
+use Rattle.format.specs.Limits.{mostBytes}
 use Rattle.verdicts.specs.declared.Verdict.the-variants.{Accepted}
 use Rattle.translation.specs.Limits.{Passes}
-use Rattle.translating.specs.TranslateCall.{plainBytes}
 use Rattle.draftfile.specs.DraftFile.{draftVerdict, decodeDraft}
 use Rattle.answer.specs.Answer.{numberIn}
 use Rattle.score.specs.ScoreTranslate.{ScoreTranslate}
 
 abbrev pub Sixteen : Type 0
 Sixteen =
-    (draft before after : List ℕ) (answer : ℕ) → ScoreTranslate draft before after answer → draftVerdict draft ≡ Accepted → length before ≡ plainBytes →
+    (draft before after : List ℕ) (answer : ℕ) → ScoreTranslate draft before after answer → draftVerdict draft ≡ Accepted → length before ≡ mostBytes →
     (numberIn answer ≡ 16 → Passes (decodeDraft draft) × (after ≡ before)) × (Passes (decodeDraft draft) → numberIn answer ≡ 16)

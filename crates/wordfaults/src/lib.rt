@@ -1,5 +1,7 @@
+// Rows 4 to 6 of the score check at one word.
 ghost use mathlib.Core.Path.{_≡_};
 ghost use Prim.Native.Nat.{_+_, _<_};
+ghost use Rattle.tcc.specs.Limits.{mostAgents};
 ghost use Rattle.tcc.specs.declared.Agent.the-variants.{When};
 ghost use Rattle.format.specs.declared.Decoded.the-variants.{Whole};
 ghost use Rattle.wordfaults.specs.WordFaults.{portsVerdict, agentVerdict, rootVerdict, ruleVerdict};
@@ -31,7 +33,7 @@ pub fn ports_verdict(sizes: Sizes, k: usize, w: u32) -> Verdict
 
 // Agent i, its word taken apart.
 pub fn agent_verdict(sizes: Sizes, i: usize, decoded: Decoded) -> Verdict
-    requires { ⌜ i < 1024 ⌝ }
+    requires { ⌜ i < mostAgents ⌝ }
     ensures { λ r. ⌜ r ≡ agentVerdict sizes i decoded ⌝ }
 {
     let Decoded::Whole(agent) = decoded else {
@@ -77,7 +79,7 @@ pub fn agent_verdict(sizes: Sizes, i: usize, decoded: Decoded) -> Verdict
 
 // Agent i with a token and a body.
 fn guarded_verdict(sizes: Sizes, i: usize, token: usize, body: usize) -> Verdict
-    requires { ⌜ i < 1024 ⌝ }
+    requires { ⌜ i < mostAgents ⌝ }
     ensures { λ r. ⌜ r ≡ agentVerdict sizes i (Whole (When token body)) ⌝ }
 {
     if sizes.tokens <= token {

@@ -11,10 +11,11 @@ use Rattle.pairs.specs.TokenSets.{members}
 use Rattle.pairs.specs.Pairs.{setIn}
 use Rattle.rows.specs.Rows.{rowValue}
 use Rattle.encoding.specs.Encode.{ruleWord}
+use Rattle.encoding.specs.Put.{put}
+use Rattle.encoding.proofs.Put.{put-none}
 use Rattle.translation.specs.Plain.{memberRules}
 use Rattle.gathered.specs.Gathered.{setsIn}
-use Rattle.plainrules.specs.Put.{put, setRules}
-use Rattle.plainrules.proofs.Put.{put-none}
+use Rattle.plainrules.specs.SetRules.{setRules}
 use Rattle.plainrules.proofs.Members.{sets-count, sets-put, sets-room}
 use Rattle.plainrules.proofs.Asked.{sets-many, tokens-fit, set-members, set-known}
 use Rattle.plainrules.proofs.put_members.Statement.{statement}

@@ -8,8 +8,8 @@ use Rattle.tcc.specs.Score.{agentAt}
 use Rattle.tcc.specs.declared.Agent.the-variants.{Skip}
 use Rattle.translation.specs.Plain.{plainOf}
 use Rattle.encoding.specs.Encode.{agentWord}
+use Rattle.encoding.proofs.Put.{Putting, putting-none, putting-more, putting-all}
 use Rattle.draftfile.specs.DraftFile.{decodeDraft}
-use Rattle.plainrules.proofs.Put.{Putting, putting-none, putting-more, putting-all}
 use Rattle.plainwords.proofs.Pairs.{agents-few, agents-many, agent-entry, agent-here, AgentFits, agent-fits}
 use Rattle.plainwords.proofs.put_agents.Statement.{statement}
 use Rattle.plainwords.proofs.put_agents.Tie as tie

@@ -7,8 +7,8 @@ use lib.ListN.{length}
 use Rattle.tcc.specs.Score.{rootOf}
 use Rattle.translation.specs.Plain.{plainOf}
 use Rattle.encoding.specs.Encode.{rootWord}
+use Rattle.encoding.proofs.Put.{Putting, putting-none, putting-more, putting-all}
 use Rattle.draftfile.specs.DraftFile.{decodeDraft}
-use Rattle.plainrules.proofs.Put.{Putting, putting-none, putting-more, putting-all}
 use Rattle.plainwords.proofs.Pairs.{procedures-many, root-entry, root-here, root-fits}
 use Rattle.plainwords.proofs.put_procedures.Statement.{statement}
 use Rattle.plainwords.proofs.put_procedures.Tie as tie

@@ -1,8 +1,8 @@
--- `building::head_word`: the number of procedures stands above that of agents.
+-- `encoding::head_word`: the number of procedures stands above that of agents.
 use borrow.Author.Needs.{needs}
 use native.Mathlib.Omega.{arith}
-use Rattle.building.proofs.head_word.Statement.{statement}
-use Rattle.building.proofs.head_word.Tie as tie
+use Rattle.encoding.proofs.head_word.Statement.{statement}
+use Rattle.encoding.proofs.head_word.Tie as tie
 
 sub-word-of : tie.Need-sub-word-of
 sub-word-of c = search needs

@@ -17,7 +17,7 @@ use Rattle.bits.specs.Bits.{bytesOf}
 use Rattle.bits.proofs.Bytes.{bytesOf-length}
 use Rattle.journal.proofs.Put.{put-more}
 use Rattle.journal.proofs.Put as journal
-use Rattle.plainrules.specs.Put.{put}
+use Rattle.encoding.specs.Put.{put}
 
 pub put-none : (from : ℕ) (bytes : List ℕ) → put from [] bytes ≡ bytes
 put-none from bytes = sym (journal.put-none from bytes)

@@ -1,7 +1,7 @@
--- `building::root_word`: nothing stands above the root.
+-- `encoding::root_word`: nothing stands above the root.
 use native.Mathlib.Omega.{arith}
-use Rattle.building.proofs.root_word.Statement.{statement}
-use Rattle.building.proofs.root_word.Tie as tie
+use Rattle.encoding.proofs.root_word.Statement.{statement}
+use Rattle.encoding.proofs.root_word.Tie as tie
 
 word-of-requires : tie.Need-word-of-requires
 word-of-requires c κs = omega arith

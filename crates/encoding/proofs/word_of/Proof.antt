@@ -1,13 +1,13 @@
--- `building::word_of`: the parts are shifted past each other.
+-- `encoding::word_of`: the parts are shifted past each other.
 use mathlib.Core.Path.{refl, _∙_}
 use Prim.Native.Nat.{_+_, _*_, _^_}
 use borrow.Author.Needs.{needs}
 use native.Mathlib.Nat.{le-mul-of-pos-right}
 use native.Mathlib.Omega.{arith}
 use lib.Pow.{pow-pos}
-use Rattle.building.proofs.Words.{or-above}
-use Rattle.building.proofs.word_of.Statement.{statement}
-use Rattle.building.proofs.word_of.Tie as tie
+use Rattle.encoding.proofs.Shifts.{or-above}
+use Rattle.encoding.proofs.word_of.Statement.{statement}
+use Rattle.encoding.proofs.word_of.Tie as tie
 
 cast-result : tie.Need-cast-result
 cast-result c = search needs

@@ -1,4 +1,4 @@
--- `building::agent_word`: by the agent.
+-- `encoding::agent_word`: by the agent.
 --     named     what an agent names is small, where it is known which agent it is
 --     told      the word of that agent is the word of the agent
 use mathlib.Core.Path.{_≡_, refl, sym, ap, subst⁻¹, _∙_}
@@ -9,9 +9,9 @@ use native.Mathlib.Omega.{arith}
 use Rattle.laws.proofs.Sets.{Within}
 use Rattle.tcc.specs.Score.{tokensOf, partsOf, proceduresOf}
 use Rattle.tcc.specs.declared.Agent.{Agent}
 use Rattle.encoding.specs.Encode.{agentWord}
-use Rattle.building.proofs.agent_word.Statement.{statement}
-use Rattle.building.proofs.agent_word.Tie as tie
+use Rattle.encoding.proofs.agent_word.Statement.{statement}
+use Rattle.encoding.proofs.agent_word.Tie as tie
 
 named : (of : Agent → List ℕ) {agent is : Agent} {n bound : ℕ} → Within (λ m. m < bound) (of agent) → agent ≡ is → List·Memᴰ n (of is) → n < bound
 named of {n = n} within e m = within n (subst⁻¹ (λ a. List·Memᴰ n (of a)) e m)
