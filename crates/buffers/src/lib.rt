@@ -2,13 +2,13 @@ ghost use mathlib.Core.Path.{_≡_};
 ghost use mathlib.Core.Bool.{cond, _||_, not};
 ghost use lib.Dec.{eqb};
 ghost use lib.ListN.{length};
+ghost use Rattle.prepared.specs.Prepared.{PreparedFrom};
 ghost use Rattle.format.specs.Decode.{sizes, decode};
-ghost use Rattle.format.specs.Playable.{Playable};
 ghost use Rattle.lent.specs.Lengths.{stateBytes, mapBytes, scratchBytes};
 ghost use Rattle.lent.specs.States.{runningWord, abortedWord};
 ghost use Rattle.buffers.specs.HandedOver.{Buffers, Known, HandedOver};
 use engine::Outcome;
-use format::Sizes;
+use prepared::Prepared;
 
 // Whether a buffer has another length than it should.
 pub fn wrong_length(state: usize, input: usize, store: usize, output: usize, scratch: usize) -> bool
@@ -24,19 +24,19 @@ pub fn wrong_length(state: usize, input: usize, store: usize, output: usize, scr
 // Writes an answer: the next state with its number, the store and what goes to the ports.
 pub fn hand_over(
     score: &[u8],
-    head: Sizes,
+    prepared: &Prepared,
     outcome: Outcome,
     number: u32,
     state: &mut [u8],
     store: &mut [u8],
     output: &mut [u8],
 )
-    requires { ⌜ head ≡ sizes (now score) ⌝ }
-    requires { ⌜ Playable (now score) ⌝ }
+    requires { ⌜ PreparedFrom (now score) (now prepared) ⌝ }
     requires { ⌜ Buffers (now state) (now store) (now output) ⌝ }
-    requires { ⌜ Known head outcome ⌝ }
+    requires { ⌜ Known (sizes (now score)) outcome ⌝ }
     ensures { λ _. ⌜ HandedOver (decode (now (score .entry))) outcome number (now (state .exit)) (now (store .exit)) (now (output .exit)) ⌝ }
 {
+    let head = prepared::sizes(prepared);
     let held = outcome.store;
     let awake = outcome.awake;
     let first = first_word(outcome.status);

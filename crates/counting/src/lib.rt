@@ -27,7 +27,8 @@ pub fn call(score: &[u8], state: &[u8], switches: &[u8], k: u32) -> Reply
     if state.len() != lent::STATE_BYTES {
         return Reply::Lengths;
     }
-    let head = format::sizes_of(words::word_at(score, 0));
+    let prepared = prepared::prepare(score);
+    let head = prepared::sizes(&prepared);
     if lent::state_fault(state, head.agents) {
         return Reply::State;
     }
@@ -41,7 +42,7 @@ pub fn call(score: &[u8], state: &[u8], switches: &[u8], k: u32) -> Reply
     let mut chosen = [false; 256];
     let counts = settings::try_settings(
         score,
-        head,
+        &prepared,
         running,
         &awake,
         &mut chosen,

@@ -6,12 +6,13 @@ ghost use Rattle.tcc.specs.Score.{agentAt};
 ghost use Rattle.tcc.specs.Instant.{isAbort, leaves};
 ghost use Rattle.format.specs.Decode.{sizes, decode};
 ghost use Rattle.format.specs.Playable.{Playable};
+ghost use Rattle.prepared.specs.Prepared.{PreparedFrom};
 ghost use Rattle.flags.specs.Flags.{setOf};
 ghost use Rattle.lent.specs.Lengths.{noScratch};
 ghost use Rattle.ending.specs.Ended.{fateOf, flagged, Read, Parted, Ended};
 use flags::Agents;
 use flags::Tokens;
-use format::Sizes;
+use prepared::Prepared;
 use tcc::Agent;
 
 // What an instant comes to: whether it aborts; if not, which agents are awake next.
@@ -34,16 +35,22 @@ enum Fate {
 }
 
 // Reads the live agents once nothing can be added, and leaves a bit in the scratch for each that is reduced.
-pub fn end_of(s: &[u8], head: Sizes, live: &Agents, held: &Tokens, scratch: &mut [u8]) -> Ending
-    requires { ⌜ head ≡ sizes (now s) ⌝ }
-    requires { ⌜ Playable (now s) ⌝ }
+pub fn end_of(
+    s: &[u8],
+    prepared: &Prepared,
+    live: &Agents,
+    held: &Tokens,
+    scratch: &mut [u8],
+) -> Ending
+    requires { ⌜ PreparedFrom (now s) (now prepared) ⌝ }
     requires { ⌜ now scratch ≡ noScratch ⌝ }
     ensures { λ r. ⌜ Ended (decode (now (s .entry))) (setOf (now (live .entry))) (setOf (now (held .entry))) (now (scratch .exit)) r ⌝ }
 {
+    let head = prepared::sizes(prepared);
     let mut awake = [false; 1024];
     let mut k = 0;
     while 32 * k < head.agents {
-        let part = part_of(s, head, live, held, k, &mut awake);
+        let part = part_of(s, head.agents, live, held, k, &mut awake);
         if part.aborted {
             return Ending {
                 aborted: true,
@@ -62,26 +69,26 @@ pub fn end_of(s: &[u8], head: Sizes, live: &Agents, held: &Tokens, scratch: &mut
 // Reads the live agents among the 32 from agent 32 k on.
 fn part_of(
     s: &[u8],
-    head: Sizes,
+    agents: usize,
     live: &Agents,
     held: &Tokens,
     k: usize,
     awake: &mut Agents,
 ) -> Part
-    requires { ⌜ head ≡ sizes (now s) ⌝ }
+    requires { ⌜ agents ≡ sizes (now s) .agents ⌝ }
     requires { ⌜ Playable (now s) ⌝ }
-    requires { ⌜ 32 * k < head .agents ⌝ }
+    requires { ⌜ 32 * k < agents ⌝ }
     requires { ⌜ Read (decode (now s)) (setOf (now live)) (setOf (now held)) (32 * k) (now awake) ⌝ }
     ensures { λ r. ⌜ Parted (decode (now (s .entry))) (setOf (now (live .entry))) (setOf (now (held .entry))) k (now (awake .exit)) r ⌝ }
 {
     let from = 32 * k;
-    let left = head.agents - from;
+    let left = agents - from;
     let few = if left < 32 { left } else { 32 };
     let mut reduced: u32 = 0;
     let mut j = 0;
     while j < few {
         if live[from + j] {
-            match fate_of(s, head, from + j, held, awake) {
+            match fate_of(s, from + j, held, awake) {
                 Fate::Aborts => {
                     return Part {
                         aborted: true,
@@ -101,10 +108,9 @@ fn part_of(
 }
 
 // What live agent i comes to; the body that it leaves is awake.
-fn fate_of(s: &[u8], head: Sizes, i: usize, held: &Tokens, awake: &mut Agents) -> Fate
-    requires { ⌜ head ≡ sizes (now s) ⌝ }
+fn fate_of(s: &[u8], i: usize, held: &Tokens, awake: &mut Agents) -> Fate
     requires { ⌜ Playable (now s) ⌝ }
-    requires { ⌜ i < head .agents ⌝ }
+    requires { ⌜ i < sizes (now s) .agents ⌝ }
     requires { ⌜ length (now awake) ≡ 1024 ⌝ }
     ensures { λ r. ⌜ r ≡ fateOf (setOf (now (held .entry))) (agentAt (decode (now (s .entry))) i) ⌝ }
     ensures { λ _. ⌜ now (awake .exit) ≡ flagged (leaves (setOf (now (held .entry))) (agentAt (decode (now (s .entry))) i)) (now (awake .entry)) ⌝ }
@@ -133,16 +139,16 @@ fn fate_of(s: &[u8], head: Sizes, i: usize, held: &Tokens, awake: &mut Agents) -
 }
 
 // Whether a live agent aborts.
-pub fn any_aborts(s: &[u8], head: Sizes, live: &Agents) -> bool
-    requires { ⌜ head ≡ sizes (now s) ⌝ }
-    requires { ⌜ Playable (now s) ⌝ }
+pub fn any_aborts(s: &[u8], prepared: &Prepared, live: &Agents) -> bool
+    requires { ⌜ PreparedFrom (now s) (now prepared) ⌝ }
     ensures { λ r. ⌜ r ≡ any (λ i. isAbort (agentAt (decode (now (s .entry))) i)) (setOf (now (live .entry))) ⌝ }
 {
+    let head = prepared::sizes(prepared);
     let mut i = head.agents;
     while 0 < i {
         i -= 1;
         if live[i] {
-            if aborts(s, head, i) {
+            if aborts(s, i) {
                 return true;
             }
         }
@@ -151,10 +157,9 @@ pub fn any_aborts(s: &[u8], head: Sizes, live: &Agents) -> bool
 }
 
 // Whether agent i aborts.
-fn aborts(s: &[u8], head: Sizes, i: usize) -> bool
-    requires { ⌜ head ≡ sizes (now s) ⌝ }
+fn aborts(s: &[u8], i: usize) -> bool
     requires { ⌜ Playable (now s) ⌝ }
-    requires { ⌜ i < head .agents ⌝ }
+    requires { ⌜ i < sizes (now s) .agents ⌝ }
     ensures { λ r. ⌜ r ≡ isAbort (agentAt (decode (now (s .entry))) i) ⌝ }
 {
     match format::agent_at(s, i) {

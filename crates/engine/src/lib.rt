@@ -1,16 +1,16 @@
-// One instant of a playable score: agents and input tokens in, status, count, store and agents awake out; in the scratch.
+// One instant of a playable score: agents and input tokens in; status, count, store and agents awake out.
 ghost use mathlib.Core.Path.{_≡_};
 ghost use lib.ListN.{length};
 ghost use Rattle.tcc.specs.Instant.{instant};
-ghost use Rattle.format.specs.Decode.{sizes, decode};
-ghost use Rattle.format.specs.Playable.{Playable};
+ghost use Rattle.format.specs.Decode.{decode};
+ghost use Rattle.prepared.specs.Prepared.{PreparedFrom};
 ghost use Rattle.flags.specs.Flags.{setOf};
 ghost use Rattle.lent.specs.Lengths.{noScratch};
 ghost use Rattle.engine.specs.Marks.{Fixed};
 ghost use Rattle.engine.specs.Outcome.{outcomeOf, trialOf};
 use flags::Agents;
 use flags::Tokens;
-use format::Sizes;
+use prepared::Prepared;
 
 // What the engine returns of an instant.
 pub struct Outcome {
@@ -22,16 +22,22 @@ pub struct Outcome {
 
 // One instant of a playable score, from the agents that are awake and the input tokens, in a scratch that is zero and is
 // left so. The agents reduced are bits in it in between, and the count is taken from them.
-pub fn play(s: &[u8], head: Sizes, agents: Agents, inputs: Tokens, scratch: &mut [u8]) -> Outcome
-    requires { ⌜ head ≡ sizes (now s) ⌝ }
-    requires { ⌜ Playable (now s) ⌝ }
+pub fn play(
+    s: &[u8],
+    prepared: &Prepared,
+    agents: Agents,
+    inputs: Tokens,
+    scratch: &mut [u8],
+) -> Outcome
+    requires { ⌜ PreparedFrom (now s) (now prepared) ⌝ }
     requires { ⌜ now scratch ≡ noScratch ⌝ }
     ensures { λ r. ⌜ r ≡ outcomeOf (instant (decode (now (s .entry))) (setOf agents) (setOf inputs)) ⌝ }
     ensures { λ _. ⌜ now (scratch .exit) ≡ noScratch ⌝ }
 {
+    let head = prepared::sizes(prepared);
     let mut live = agents;
-    let held = settle(s, head, &mut live, inputs);
-    let end = ending::end_of(s, head, &live, &held, scratch);
+    let held = settle(s, prepared, &mut live, inputs);
+    let end = ending::end_of(s, prepared, &live, &held, scratch);
     let count = tally::count_and_clear(scratch, 4 * ((head.agents + 31) / 32));
     if end.aborted {
         Outcome {
@@ -59,15 +65,14 @@ pub struct Trial {
 }
 
 // Tries such an instant: its status and its store alone, without a scratch.
-pub fn try_instant(s: &[u8], head: Sizes, agents: &Agents, inputs: &Tokens) -> Trial
-    requires { ⌜ head ≡ sizes (now s) ⌝ }
-    requires { ⌜ Playable (now s) ⌝ }
+pub fn try_instant(s: &[u8], prepared: &Prepared, agents: &Agents, inputs: &Tokens) -> Trial
+    requires { ⌜ PreparedFrom (now s) (now prepared) ⌝ }
     requires { ⌜ length (now agents) ≡ 1024 ⌝ }
     ensures { λ r. ⌜ r ≡ trialOf (instant (decode (now (s .entry))) (setOf (now (agents .entry))) (setOf (now (inputs .entry)))) ⌝ }
 {
     let mut live = *agents;
-    let store = settle(s, head, &mut live, *inputs);
-    if ending::any_aborts(s, head, &live) {
+    let store = settle(s, prepared, &mut live, *inputs);
+    if ending::any_aborts(s, prepared, &live) {
         let status = 2;
         let store = [false; 256];
         return Trial { status, store };
@@ -77,16 +82,15 @@ pub fn try_instant(s: &[u8], head: Sizes, agents: &Agents, inputs: &Tokens) -> T
 }
 
 // Passes until there is nothing to add; marks the agents that come alive, and returns the tokens held.
-fn settle(s: &[u8], head: Sizes, live: &mut Agents, inputs: Tokens) -> Tokens
-    requires { ⌜ head ≡ sizes (now s) ⌝ }
-    requires { ⌜ Playable (now s) ⌝ }
+fn settle(s: &[u8], prepared: &Prepared, live: &mut Agents, inputs: Tokens) -> Tokens
+    requires { ⌜ PreparedFrom (now s) (now prepared) ⌝ }
     requires { ⌜ length (now live) ≡ 1024 ⌝ }
     ensures { λ r. ⌜ Fixed (decode (now (s .entry))) (setOf (now (live .entry))) (setOf inputs) (setOf (now (live .exit))) (setOf r) ⌝ }
 {
     let mut held = inputs;
-    store::closed(s, head, &mut held);
-    while marking::pass(s, head, live, &mut held) {
-        store::closed(s, head, &mut held);
+    store::closed(s, prepared, &mut held);
+    while marking::pass(s, prepared, live, &mut held) {
+        store::closed(s, prepared, &mut held);
     }
     held
 }

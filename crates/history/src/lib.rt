@@ -3,6 +3,7 @@ ghost use mathlib.Core.Bool.{false};
 ghost use Prim.Native.Nat.{ℕ, _≤_};
 ghost use lib.ListN.{length, getD};
 ghost use Rattle.tcc.specs.Instant.{startState, answer};
+ghost use Rattle.prepared.specs.Prepared.{PreparedFrom};
 ghost use Rattle.format.specs.Decode.{sizes, decode};
 ghost use Rattle.format.specs.Playable.{Playable};
 ghost use Rattle.flags.specs.Flags.{setOf};
@@ -11,7 +12,7 @@ ghost use Rattle.lent.specs.States.{stateOf, asBytes, startBytes, LawfulState};
 ghost use Rattle.standing.specs.Standing.{stateIn};
 ghost use Rattle.history.specs.Stepped.{Stepped};
 use flags::Tokens;
-use format::Sizes;
+use prepared::Prepared;
 use standing::Standing;
 use verdicts::Verdict;
 
@@ -53,20 +54,20 @@ pub struct Step {
 // Plays one instant from where a score stands.
 pub fn step_from(
     score: &[u8],
-    head: Sizes,
+    prepared: &Prepared,
     standing: Standing,
     told: Tokens,
     scratch: &mut [u8],
 ) -> Step
-    requires { ⌜ head ≡ sizes (now score) ⌝ }
-    requires { ⌜ Playable (now score) ⌝ }
+    requires { ⌜ PreparedFrom (now score) (now prepared) ⌝ }
     requires { ⌜ LawfulState (sizes (now score) .agents) (stateIn standing) ⌝ }
     requires { ⌜ ((t : ℕ) → sizes (now score) .tokens ≤ t → getD told t false ≡ false) ⌝ }
     requires { ⌜ now scratch ≡ noScratch ⌝ }
     ensures { λ r. ⌜ Stepped (now (score .entry)) (answer (decode (now (score .entry))) (stateIn standing) (setOf told)) r ⌝ }
     ensures { λ _. ⌜ now (scratch .exit) ≡ noScratch ⌝ }
 {
-    let outcome = standing::answer_from(score, head, standing, told, scratch);
+    let head = prepared::sizes(prepared);
+    let outcome = standing::answer_from(score, prepared, standing, told, scratch);
     let awake = outcome.awake;
     let held = outcome.store;
     let out = standing::sent(score, outcome.status, held);
@@ -81,11 +82,11 @@ pub fn step_from(
 }
 
 // Where a score stands at the start: the root of procedure 0 is awake.
-pub fn start(score: &[u8], head: Sizes) -> Standing
-    requires { ⌜ head ≡ sizes (now score) ⌝ }
-    requires { ⌜ Playable (now score) ⌝ }
+pub fn start(score: &[u8], prepared: &Prepared) -> Standing
+    requires { ⌜ PreparedFrom (now score) (now prepared) ⌝ }
     ensures { λ r. ⌜ stateIn r ≡ stateOf (asBytes (startState (decode (now (score .entry))))) ⌝ }
 {
+    let head = prepared::sizes(prepared);
     let root = format::root_of(score, head.agents, 0);
     let mut awake = [false; 1024];
     awake[root] = true;
@@ -101,7 +102,8 @@ pub fn write_start(score: &[u8], state: &mut [u8])
     requires { ⌜ length (now state) ≡ stateBytes ⌝ }
     ensures { λ _. ⌜ now (state .exit) ≡ startBytes (decode (now (score .entry))) ⌝ }
 {
-    let head = format::sizes_of(words::word_at(score, 0));
-    let standing = start(score, head);
+    let prepared = prepared::prepare(score);
+    let head = prepared::sizes(&prepared);
+    let standing = start(score, &prepared);
     standing::write_standing(state, head.agents, standing, 0);
 }

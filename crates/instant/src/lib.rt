@@ -1,8 +1,8 @@
 ghost use mathlib.Core.Path.{_≡_};
 ghost use lib.ListN.{length};
 ghost use Rattle.tcc.specs.Instant.{answer};
-ghost use Rattle.format.specs.Decode.{sizes, decode};
-ghost use Rattle.format.specs.Playable.{Playable};
+ghost use Rattle.prepared.specs.Prepared.{PreparedFrom};
+ghost use Rattle.format.specs.Decode.{decode};
 ghost use Rattle.flags.specs.Flags.{setOf};
 ghost use Rattle.engine.specs.Outcome.{outcomeOf};
 ghost use Rattle.lent.specs.Lengths.{stateBytes, noScratch};
@@ -10,7 +10,7 @@ ghost use Rattle.lent.specs.States.{stateOf};
 ghost use Rattle.instant.specs.InstantCall.{lent, InstantCall};
 use engine::Outcome;
 use flags::Tokens;
-use format::Sizes;
+use prepared::Prepared;
 use verdicts::Verdict;
 
 // What an instant call answers.
@@ -55,7 +55,8 @@ pub fn call(
     ) {
         return Reply::Lengths;
     }
-    let head = format::sizes_of(words::word_at(score, 0));
+    let prepared = prepared::prepare(score);
+    let head = prepared::sizes(&prepared);
     if lent::state_fault(state, head.agents) {
         return Reply::State;
     }
@@ -68,23 +69,34 @@ pub fn call(
         return Reply::Last;
     }
     bits::clear(scratch);
-    let outcome = answer_in(score, head, state, inputs, scratch);
+    let outcome = answer_in(score, &prepared, state, inputs, scratch);
     let awake = outcome.awake;
     if bits::any_from(&awake, head.agents) {
         return Reply::Next;
     }
-    buffers::hand_over(score, head, outcome, number + 1, state, store, output);
+    buffers::hand_over(score, &prepared, outcome, number + 1, state, store, output);
     Reply::Settled(outcome.status, outcome.count)
 }
 
 // The answer in a state.
-fn answer_in(score: &[u8], head: Sizes, state: &[u8], inputs: Tokens, scratch: &mut [u8]) -> Outcome
-    requires { ⌜ head ≡ sizes (now score) ⌝ }
-    requires { ⌜ Playable (now score) ⌝ }
+fn answer_in(
+    score: &[u8],
+    prepared: &Prepared,
+    state: &[u8],
+    inputs: Tokens,
+    scratch: &mut [u8],
+) -> Outcome
+    requires { ⌜ PreparedFrom (now score) (now prepared) ⌝ }
     requires { ⌜ length (now state) ≡ stateBytes ⌝ }
     requires { ⌜ now scratch ≡ noScratch ⌝ }
     ensures { λ r. ⌜ r ≡ outcomeOf (answer (decode (now (score .entry))) (stateOf (now (state .entry))) (setOf inputs)) ⌝ }
     ensures { λ _. ⌜ now (scratch .exit) ≡ noScratch ⌝ }
 {
-    standing::answer_from(score, head, standing::standing_in(state), inputs, scratch)
+    standing::answer_from(
+        score,
+        prepared,
+        standing::standing_in(state),
+        inputs,
+        scratch,
+    )
 }

@@ -4,8 +4,8 @@ ghost use Prim.Native.Nat.{_<_};
 ghost use lib.ListN.{length};
 ghost use Rattle.tcc.specs.Instant.{answer};
 ghost use Rattle.words.specs.Word.{words};
+ghost use Rattle.prepared.specs.Prepared.{PreparedFrom};
 ghost use Rattle.format.specs.Decode.{sizes, decode};
-ghost use Rattle.format.specs.Playable.{Playable};
 ghost use Rattle.flags.specs.Flags.{setOf};
 ghost use Rattle.lent.specs.Lengths.{noScratch};
 ghost use Rattle.lent.specs.States.{LawfulState};
@@ -19,8 +19,8 @@ ghost use Rattle.journalcheck.specs.Check.{same};
 ghost use Rattle.journalcheck.specs.Held.{Held};
 ghost use Rattle.journalcheck.specs.JournalCheckCall.{checked, JournalCheckCall};
 use form::Form;
-use format::Sizes;
 use history::Reply;
+use prepared::Prepared;
 use standing::Standing;
 
 // One instant of a journal, held against what the run writes.
@@ -44,32 +44,32 @@ pub fn call(score: &[u8], journal: &[u8], scratch: &mut [u8]) -> Reply
     if scratch.len() != lent::SCRATCH_BYTES {
         return Reply::Lengths;
     }
-    let head = format::sizes_of(words::word_at(score, 0));
+    let prepared = prepared::prepare(score);
+    let head = prepared::sizes(&prepared);
     match form::form_of(journal, head.tokens, true) {
         Form::Bytes => Reply::Bytes,
         Form::Word(k) => Reply::Word(k),
         Form::Good => {
             bits::clear(scratch);
-            check_list(score, head, journal, scratch)
+            check_list(score, &prepared, journal, scratch)
         }
     }
 }
 
 // Reads the instants of a journal of good form until one is not what the run writes.
-fn check_list(score: &[u8], head: Sizes, journal: &[u8], scratch: &mut [u8]) -> Reply
-    requires { ⌜ head ≡ sizes (now score) ⌝ }
-    requires { ⌜ Playable (now score) ⌝ }
+fn check_list(score: &[u8], prepared: &Prepared, journal: &[u8], scratch: &mut [u8]) -> Reply
+    requires { ⌜ PreparedFrom (now score) (now prepared) ⌝ }
     requires { ⌜ formOf true (sizes (now score) .tokens) (now journal) ≡ Good ⌝ }
     requires { ⌜ now scratch ≡ noScratch ⌝ }
     ensures { λ r. ⌜ r ≡ checked (now (score .entry)) (now (journal .entry)) ⌝ }
     ensures { λ _. ⌜ now (scratch .exit) ≡ noScratch ⌝ }
 {
-    let mut stands = history::start(score, head);
+    let mut stands = history::start(score, prepared);
     let mut instants = 0;
     let mut at = 0;
     while at < journal.len() {
         let here = parts::part(journal, Form::Good, at);
-        let checked = check_instant(score, head, stands, here, scratch);
+        let checked = check_instant(score, prepared, stands, here, scratch);
         if checked.unlawful {
             return Reply::Unlawful;
         }
@@ -86,13 +86,12 @@ fn check_list(score: &[u8], head: Sizes, journal: &[u8], scratch: &mut [u8]) -> 
 // Plays the instant that the words of a journal tell, and holds its words against them.
 fn check_instant(
     score: &[u8],
-    head: Sizes,
+    prepared: &Prepared,
     standing: Standing,
     here: &[u8],
     scratch: &mut [u8],
 ) -> Checked
-    requires { ⌜ head ≡ sizes (now score) ⌝ }
-    requires { ⌜ Playable (now score) ⌝ }
+    requires { ⌜ PreparedFrom (now score) (now prepared) ⌝ }
     requires { ⌜ LawfulState (sizes (now score) .agents) (stateIn standing) ⌝ }
     requires { ⌜ Formed (sizes (now score) .tokens) (words (now here)) ⌝ }
     requires { ⌜ now scratch ≡ noScratch ⌝ }
@@ -100,7 +99,7 @@ fn check_instant(
     ensures { λ _. ⌜ now (scratch .exit) ≡ noScratch ⌝ }
 {
     let told = parts::tokens_in(here, 13);
-    let step = history::step_from(score, head, standing, told, scratch);
+    let step = history::step_from(score, prepared, standing, told, scratch);
     let out = step.out;
     let after = step.standing;
     let differs = differs_from(here, step.status, &out);

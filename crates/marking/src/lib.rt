@@ -1,22 +1,22 @@
 ghost use mathlib.Core.Path.{_≡_};
 ghost use lib.ListN.{length};
-ghost use Rattle.format.specs.Decode.{sizes, decode};
-ghost use Rattle.format.specs.Playable.{Playable};
+ghost use Rattle.format.specs.Decode.{decode};
+ghost use Rattle.prepared.specs.Prepared.{PreparedFrom};
 ghost use Rattle.marking.specs.Passed.{Passed};
 use flags::Agents;
 use flags::Tokens;
-use format::Sizes;
+use prepared::Prepared;
 use tcc::Agent;
 
 // One pass over the agents, from the highest on, in which each live agent has its effect: a body or half has a lower
 // number than its agent, so that a mark goes all the way down. Says whether another pass may find more.
-pub fn pass(s: &[u8], head: Sizes, live: &mut Agents, held: &mut Tokens) -> bool
-    requires { ⌜ head ≡ sizes (now s) ⌝ }
-    requires { ⌜ Playable (now s) ⌝ }
+pub fn pass(s: &[u8], prepared: &Prepared, live: &mut Agents, held: &mut Tokens) -> bool
+    requires { ⌜ PreparedFrom (now s) (now prepared) ⌝ }
     requires { ⌜ length (now live) ≡ 1024 ⌝ }
     requires { ⌜ length (now held) ≡ 256 ⌝ }
     ensures { λ r. ⌜ Passed (decode (now (s .entry))) 0 (now (live .entry)) (now (held .entry)) (now (live .exit)) (now (held .exit)) r ⌝ }
 {
+    let head = prepared::sizes(prepared);
     let mut grew = false;
     let mut i = head.agents;
     while 0 < i {

@@ -2,8 +2,8 @@ ghost use mathlib.Core.Path.{_≡_};
 ghost use mathlib.Core.Bool.{false, cond, not, _||_};
 ghost use lib.Dec.{eqb};
 ghost use lib.ListN.{length};
+ghost use Rattle.prepared.specs.Prepared.{PreparedFrom};
 ghost use Rattle.format.specs.Decode.{sizes};
-ghost use Rattle.format.specs.Playable.{Playable};
 ghost use Rattle.lent.specs.Lengths.{stateBytes, scratchBytes, noScratch};
 ghost use Rattle.lent.specs.States.{stateFault, numbered, LawfulState};
 ghost use Rattle.standing.specs.Standing.{stateIn};
@@ -13,8 +13,8 @@ ghost use Rattle.parts.specs.Instants.{inputLists};
 ghost use Rattle.runlist.specs.Run.{runFrom};
 ghost use Rattle.run.specs.RunCall.{lent, ending, LeftBy, RunCall};
 use form::Form;
-use format::Sizes;
 use history::Reply;
+use prepared::Prepared;
 use runlist::Ended;
 use runlist::Stop;
 
@@ -35,7 +35,8 @@ pub fn call(
     if wrong_length(state.len(), scratch.len()) {
         return Reply::Lengths;
     }
-    let head = format::sizes_of(words::word_at(score, 0));
+    let prepared = prepared::prepare(score);
+    let head = prepared::sizes(&prepared);
     if lent::state_fault(state, head.agents) {
         return Reply::State;
     }
@@ -44,7 +45,7 @@ pub fn call(
         Form::Word(k) => Reply::Word(k),
         Form::Good => {
             bits::clear(scratch);
-            run_from(score, head, state, inputs, journal, scratch)
+            run_from(score, &prepared, state, inputs, journal, scratch)
         }
     }
 }
@@ -52,14 +53,13 @@ pub fn call(
 // Runs a list of good form from a lawful state.
 fn run_from(
     score: &[u8],
-    head: Sizes,
+    prepared: &Prepared,
     state: &mut [u8],
     inputs: &[u8],
     journal: &mut [u8],
     scratch: &mut [u8],
 ) -> Reply
-    requires { ⌜ head ≡ sizes (now score) ⌝ }
-    requires { ⌜ Playable (now score) ⌝ }
+    requires { ⌜ PreparedFrom (now score) (now prepared) ⌝ }
     requires { ⌜ length (now state) ≡ stateBytes ⌝ }
     requires { ⌜ stateFault (sizes (now score) .agents) (now state) ≡ false ⌝ }
     requires { ⌜ formOf false (sizes (now score) .tokens) (now inputs) ≡ Good ⌝ }
@@ -67,9 +67,10 @@ fn run_from(
     ensures { λ r. ⌜ LeftBy (runFrom (now (score .entry)) (now (state .entry)) (length (now (journal .entry))) (inputLists (now (inputs .entry)))) (now (journal .entry)) (now (state .exit)) (now (journal .exit)) r ⌝ }
     ensures { λ _. ⌜ now (scratch .exit) ≡ noScratch ⌝ }
 {
+    let head = prepared::sizes(prepared);
     let standing = standing::standing_in(state);
     let number = lent::number_in(state);
-    let ended = runlist::run_list(score, head, standing, number, inputs, journal, scratch);
+    let ended = runlist::run_list(score, prepared, standing, number, inputs, journal, scratch);
     keep(state, head.agents, ended);
     let stop = ended.stop;
     reply_of(stop, ended.instants)

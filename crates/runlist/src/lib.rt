@@ -4,8 +4,8 @@ ghost use mathlib.Core.List.{List};
 ghost use Prim.Native.Nat.{ℕ, _≤_};
 ghost use lib.ListN.{length, getD};
 ghost use Rattle.tcc.specs.Instant.{answer};
+ghost use Rattle.prepared.specs.Prepared.{PreparedFrom};
 ghost use Rattle.format.specs.Decode.{sizes, decode};
-ghost use Rattle.format.specs.Playable.{Playable};
 ghost use Rattle.flags.specs.Flags.{setOf};
 ghost use Rattle.lent.specs.Lengths.{noScratch};
 ghost use Rattle.lent.specs.States.{stateOf, instantNumber, LawfulState};
@@ -18,7 +18,7 @@ ghost use Rattle.runlist.specs.Run.{stopBy, goesOn, runFrom};
 ghost use Rattle.runlist.specs.Advance.{Advanced, RanTo};
 use flags::Tokens;
 use form::Form;
-use format::Sizes;
+use prepared::Prepared;
 use standing::Standing;
 
 // Why an instant of a run is not written.
@@ -50,15 +50,14 @@ pub struct Ended {
 // Plays the instants of a list of good form and writes each whole one that fits.
 pub fn run_list(
     score: &[u8],
-    head: Sizes,
+    prepared: &Prepared,
     standing: Standing,
     number: u32,
     inputs: &[u8],
     journal: &mut [u8],
     scratch: &mut [u8],
 ) -> Ended
-    requires { ⌜ head ≡ sizes (now score) ⌝ }
-    requires { ⌜ Playable (now score) ⌝ }
+    requires { ⌜ PreparedFrom (now score) (now prepared) ⌝ }
     requires { ⌜ LawfulState (sizes (now score) .agents) (stateIn standing) ⌝ }
     requires { ⌜ formOf false (sizes (now score) .tokens) (now inputs) ≡ Good ⌝ }
     requires { ⌜ now scratch ≡ noScratch ⌝ }
@@ -76,7 +75,7 @@ pub fn run_list(
         let last = reached == lent::LAST_NUMBER;
         let taken = advance(
             score,
-            head,
+            prepared,
             stands,
             last,
             told,
@@ -110,22 +109,22 @@ pub fn run_list(
 // Plays one instant and writes it at the front of a journal buffer, if it can be written.
 fn advance(
     score: &[u8],
-    head: Sizes,
+    prepared: &Prepared,
     standing: Standing,
     last: bool,
     told: Tokens,
     journal: &mut [u8],
     scratch: &mut [u8],
 ) -> Taken
-    requires { ⌜ head ≡ sizes (now score) ⌝ }
-    requires { ⌜ Playable (now score) ⌝ }
+    requires { ⌜ PreparedFrom (now score) (now prepared) ⌝ }
     requires { ⌜ LawfulState (sizes (now score) .agents) (stateIn standing) ⌝ }
     requires { ⌜ ((t : ℕ) → sizes (now score) .tokens ≤ t → getD told t false ≡ false) ⌝ }
     requires { ⌜ now scratch ≡ noScratch ⌝ }
     ensures { λ r. ⌜ Advanced (now (score .entry)) last (answer (decode (now (score .entry))) (stateIn standing) (setOf told)) (entry (decode (now (score .entry))) (setOf told) (answer (decode (now (score .entry))) (stateIn standing) (setOf told))) (now (journal .entry)) (now (journal .exit)) r ⌝ }
     ensures { λ _. ⌜ now (scratch .exit) ≡ noScratch ⌝ }
 {
-    let step = history::step_from(score, head, standing, told, scratch);
+    let head = prepared::sizes(prepared);
+    let step = history::step_from(score, prepared, standing, told, scratch);
     let out = step.out;
     let after = step.standing;
     let bytes = journal::size(head.tokens, &told, &out);

@@ -3,15 +3,15 @@ ghost use mathlib.Core.List.{[], _∷_, _++_, map};
 ghost use Prim.Native.Nat.{_≤_};
 ghost use lib.ListN.{length};
 ghost use Rattle.tcc.specs.Instant.{answer};
-ghost use Rattle.format.specs.Decode.{sizes, decode};
-ghost use Rattle.format.specs.Playable.{Playable};
+ghost use Rattle.format.specs.Decode.{decode};
+ghost use Rattle.prepared.specs.Prepared.{PreparedFrom};
 ghost use Rattle.flags.specs.Flags.{setOf};
 ghost use Rattle.switches.specs.Switches.{mostSwitches};
 ghost use Rattle.settings.specs.Settings.{settings, counts};
 ghost use Rattle.settings.specs.Standing.{stateFrom};
 use flags::Agents;
 use flags::Tokens;
-use format::Sizes;
+use prepared::Prepared;
 
 // How many settings end with each status: 0, 1 and 2.
 pub struct Counts {
@@ -24,15 +24,14 @@ pub struct Counts {
 // first one left, then those without it.
 pub fn try_settings(
     score: &[u8],
-    head: Sizes,
+    prepared: &Prepared,
     running: bool,
     awake: &Agents,
     chosen: &mut Tokens,
     left: &[u8],
     k: usize,
 ) -> Counts
-    requires { ⌜ head ≡ sizes (now score) ⌝ }
-    requires { ⌜ Playable (now score) ⌝ }
+    requires { ⌜ PreparedFrom (now score) (now prepared) ⌝ }
     requires { ⌜ length (now awake) ≡ 1024 ⌝ }
     requires { ⌜ length (now chosen) ≡ 256 ⌝ }
     requires { ⌜ length (now left) ≤ mostSwitches ⌝ }
@@ -40,7 +39,7 @@ pub fn try_settings(
     ensures { λ _. ⌜ now (chosen .exit) ≡ now (chosen .entry) ⌝ }
 {
     if k == 0 {
-        return try_setting(score, head, running, awake, chosen);
+        return try_setting(score, prepared, running, awake, chosen);
     }
     if left.len() < k {
         return Counts {
@@ -53,9 +52,9 @@ pub fn try_settings(
     let others = &left[1..];
     let was = chosen[token];
     chosen[token] = true;
-    let with = try_settings(score, head, running, awake, chosen, others, k - 1);
+    let with = try_settings(score, prepared, running, awake, chosen, others, k - 1);
     chosen[token] = was;
-    let without = try_settings(score, head, running, awake, chosen, others, k);
+    let without = try_settings(score, prepared, running, awake, chosen, others, k);
     Counts {
         quiet: with.quiet + without.quiet,
         clashed: with.clashed + without.clashed,
@@ -64,13 +63,18 @@ pub fn try_settings(
 }
 
 // Tries one setting.
-fn try_setting(score: &[u8], head: Sizes, running: bool, awake: &Agents, pressed: &Tokens) -> Counts
-    requires { ⌜ head ≡ sizes (now score) ⌝ }
-    requires { ⌜ Playable (now score) ⌝ }
+fn try_setting(
+    score: &[u8],
+    prepared: &Prepared,
+    running: bool,
+    awake: &Agents,
+    pressed: &Tokens,
+) -> Counts
+    requires { ⌜ PreparedFrom (now score) (now prepared) ⌝ }
     requires { ⌜ length (now awake) ≡ 1024 ⌝ }
     ensures { λ r. ⌜ r ≡ counts (decode (now (score .entry))) (stateFrom running (now (awake .entry))) (setOf (now (pressed .entry)) ∷ []) ⌝ }
 {
-    let status = status_in(score, head, running, awake, pressed);
+    let status = status_in(score, prepared, running, awake, pressed);
     Counts {
         quiet: (status == 0) as usize,
         clashed: (status == 1) as usize,
@@ -79,14 +83,19 @@ fn try_setting(score: &[u8], head: Sizes, running: bool, awake: &Agents, pressed
 }
 
 // The status with which a setting ends: an aborted score stays aborted.
-fn status_in(score: &[u8], head: Sizes, running: bool, awake: &Agents, pressed: &Tokens) -> usize
-    requires { ⌜ head ≡ sizes (now score) ⌝ }
-    requires { ⌜ Playable (now score) ⌝ }
+fn status_in(
+    score: &[u8],
+    prepared: &Prepared,
+    running: bool,
+    awake: &Agents,
+    pressed: &Tokens,
+) -> usize
+    requires { ⌜ PreparedFrom (now score) (now prepared) ⌝ }
     requires { ⌜ length (now awake) ≡ 1024 ⌝ }
     ensures { λ r. ⌜ r ≡ answer (decode (now (score .entry))) (stateFrom running (now (awake .entry))) (setOf (now (pressed .entry))) .status ⌝ }
 {
     if running {
-        let trial = engine::try_instant(score, head, awake, pressed);
+        let trial = engine::try_instant(score, prepared, awake, pressed);
         return trial.status;
     }
     2

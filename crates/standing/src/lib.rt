@@ -6,7 +6,8 @@ ghost use Prim.Native.Nat.{ℕ, _<_, _≤_};
 ghost use lib.Dec.{eqb, leb};
 ghost use lib.ListN.{length, getD, drop};
 ghost use Rattle.tcc.specs.Instant.{output, answer};
-ghost use Rattle.format.specs.Decode.{sizes, decode};
+ghost use Rattle.prepared.specs.Prepared.{PreparedFrom};
+ghost use Rattle.format.specs.Decode.{decode};
 ghost use Rattle.format.specs.Playable.{Playable};
 ghost use Rattle.flags.specs.Flags.{setOf, flagsOf};
 ghost use Rattle.engine.specs.Outcome.{outcomeOf};
@@ -16,7 +17,7 @@ ghost use Rattle.standing.specs.Standing.{stateIn, standingIn};
 use engine::Outcome;
 use flags::Agents;
 use flags::Tokens;
-use format::Sizes;
+use prepared::Prepared;
 
 // Where a score stands between two instants.
 pub struct Standing {
@@ -37,20 +38,19 @@ pub fn standing_in(state: &[u8]) -> Standing
 // The answer from where a score stands: an aborted one stays aborted.
 pub fn answer_from(
     score: &[u8],
-    head: Sizes,
+    prepared: &Prepared,
     standing: Standing,
     inputs: Tokens,
     scratch: &mut [u8],
 ) -> Outcome
-    requires { ⌜ head ≡ sizes (now score) ⌝ }
-    requires { ⌜ Playable (now score) ⌝ }
+    requires { ⌜ PreparedFrom (now score) (now prepared) ⌝ }
     requires { ⌜ now scratch ≡ noScratch ⌝ }
     ensures { λ r. ⌜ r ≡ outcomeOf (answer (decode (now (score .entry))) (stateIn standing) (setOf inputs)) ⌝ }
     ensures { λ _. ⌜ now (scratch .exit) ≡ noScratch ⌝ }
 {
     let awake = standing.awake;
     if standing.running {
-        engine::play(score, head, awake, inputs, scratch)
+        engine::play(score, prepared, awake, inputs, scratch)
     } else {
         Outcome {
             status: 2,

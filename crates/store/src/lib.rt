@@ -5,21 +5,21 @@ ghost use Prim.Native.Nat.{_+_, _≤_};
 ghost use lib.ListN.{length};
 ghost use Rattle.tcc.specs.Store.{closure};
 ghost use Rattle.format.specs.Decode.{sizes, decode};
-ghost use Rattle.format.specs.Playable.{Playable};
+ghost use Rattle.prepared.specs.Prepared.{PreparedFrom};
 ghost use Rattle.flags.specs.Flags.{setOf, flagsOf};
 ghost use Rattle.store.specs.PassBound.{PassCount};
 ghost use Rattle.store.specs.Passes.{HasFacts, adds, Passed, Repeated, Flooded};
 use flags::Tokens;
-use format::Sizes;
+use prepared::Prepared;
 
 // Closes a store under the rules and the clash; returns how many passes over the rules there were.
-pub fn closed(s: &[u8], head: Sizes, store: &mut Tokens) -> u16
-    requires { ⌜ head ≡ sizes (now s) ⌝ }
-    requires { ⌜ Playable (now s) ⌝ }
+pub fn closed(s: &[u8], prepared: &Prepared, store: &mut Tokens) -> u16
+    requires { ⌜ PreparedFrom (now s) (now prepared) ⌝ }
     requires { ⌜ length (now store) ≡ 256 ⌝ }
     ensures closes { λ _. ⌜ now (store .exit) ≡ flagsOf 256 (closure (decode (now (s .entry))) (setOf (now (store .entry)))) ⌝ }
     ensures counts { λ r. ⌜ PassCount (decode (now (s .entry)) .rules) (now (store .entry)) r ⌝ }
 {
+    let head = prepared::sizes(prepared);
     let from = 2 + head.agents + head.procedures;
     let passes = close_rules(s, from, store);
     if store[0] {

@@ -10,9 +10,10 @@ use lib.ListN.{length}
 use Rattle.laws.proofs.Booleans.{neither}
 use Rattle.format.specs.Decode.{sizes}
 use Rattle.format.specs.Playable.{Playable}
+use Rattle.prepared.specs.Prepared.{PreparedFrom}
 use Rattle.verdicts.specs.Verdicts.{numberOf}
 use Rattle.scorefile.specs.Check.{verdict}
-use Rattle.scorefile.proofs.Stages.{head-read, by-head}
+use Rattle.scorefile.proofs.Stages.{by-head}
 use Rattle.scorefile.proofs.Stages as stages
 use Rattle.lent.specs.Lengths.{stateBytes}
 use Rattle.lent.specs.States.{stateFault}
@@ -27,17 +28,17 @@ use Rattle.counting.proofs.call.Tie as tie
 abbrev to-start : tie.After-number-of → tie.Start
 to-start c = c .before .before .before .before .before
 
-abbrev to-lengths : tie.After-sizes-of → tie.Else2
-to-lengths c = c .before .before
+abbrev to-lengths : tie.After-sizes → tie.Else2
+to-lengths c = c .before .before .before
 
-abbrev to-sizes : tie.Else3 → tie.After-sizes-of
+abbrev to-sizes : tie.Else3 → tie.After-sizes
 to-sizes c = c .before .before
 
 abbrev to-state : tie.Else4 → tie.Else3
 to-state c = c .before .before
 
 abbrev to-switches : tie.After-try-settings → tie.Else4
-to-switches c = c .before .before .before .before .before
+to-switches c = c .before .before .before .before .before .before
 
 accepted : (c : tie.Else1) → numberOf (verdict (to-start (c .before) .args .score .now)) ≡ 0
 accepted c = stages.accepted (to-start (c .before) .args .score .now) (c .before .number-of .ensures) (c .before .before .check .ensures) (c .if1 .left)
@@ -45,8 +46,12 @@ accepted c = stages.accepted (to-start (c .before) .args .score .now) (c .before
 playable : (c : tie.Else1) → Playable (to-start (c .before) .args .score .now)
 playable c = stages.playable (to-start (c .before) .args .score .now) (accepted c)
 
-sizes-are : (c : tie.After-sizes-of) → c .sizes-of .result ≡ sizes (to-start (to-lengths c .before .before) .args .score .now)
-sizes-are c = head-read (to-start (to-lengths c .before .before) .args .score .now) (c .before .word-at .ensures) (c .sizes-of .ensures)
+-- what is worked out of the score, and the sizes that it says
+prepared : (c : tie.After-sizes) → PreparedFrom (to-start (to-lengths c .before .before) .args .score .now) (c .before .before .prepare .result)
+prepared c = c .before .before .prepare .ensures
+
+sizes-are : (c : tie.After-sizes) → c .sizes .result ≡ sizes (to-start (to-lengths c .before .before) .args .score .now)
+sizes-are c = c .sizes .ensures ∙ prepared c .sized
 
 fault-is : (c : tie.After-state-fault) → let b = to-start (to-lengths (c .before) .before .before) in c .state-fault .result ≡ stateFault (sizes (b .args .score .now) .agents) (b .args .state .now)
 fault-is c = by-head (λ h. stateFault (h .agents) (to-start (to-lengths (c .before) .before .before) .args .state .now)) (sizes-are (c .before)) (c .state-fault .ensures)
@@ -85,11 +90,11 @@ returns c = let b = to-start (c .before) .args in record { replies = turned (b .
 returns-2 : tie.Need-returns-2
 returns-2 c = let b = to-start (c .before .before) .args in record { replies = lengths (b .score .now) (b .state .now) (b .switches .now) (b .k) (accepted (c .before)) (ap not (ne-eqb (length (b .state .now)) stateBytes (c .if2 .taken))) }
 
-word-at-requires : tie.Need-word-at-requires
-word-at-requires c κs = omega (arith, playable (c .before) .whole)
+prepare-requires : tie.Need-prepare-requires
+prepare-requires c κs = playable (c .before)
 
-sizes-of-requires : tie.Need-sizes-of-requires
-sizes-of-requires c κs = search needs
+sizes-requires : tie.Need-sizes-requires
+sizes-requires c κs = c .before .prepare .ensures .long
 
 state-fault-requires : tie.Need-state-fault-requires
 state-fault-requires c κs = search needs
@@ -119,10 +124,14 @@ few c =
     let b = to-start (to-lengths (to-sizes (to-state c)) .before .before) in
     faultless (sizes (b .args .score .now) .tokens) (b .args .switches .now) (none c .0) .0
 
+awake-long : (c : tie.After-standing-in) → length (c .standing-in .result .awake) ≡ 1024
+awake-long c = search needs
+
 try-settings-requires : tie.Need-try-settings-requires
 try-settings-requires c κs =
-    let e = c .before .before .before .before in
-    (sizes-are (to-sizes (to-state e)), (playable (to-lengths (to-sizes (to-state e)) .before), (search needs, (refl, few e))))
+    let s = c .before .before .before .before in
+    let e = s .before in
+    (prepared (to-sizes (to-state e)), (awake-long s, (refl, few e)))
 
 returns-5 : tie.Need-returns-5
 returns-5 c =
@@ -134,7 +143,7 @@ returns-5 c =
     record {
       replies =
           counts-all (b .score .now) (b .state .now) (b .switches .now) (b .k) (accepted at-score) (long at-lengths) (lawful at-state) (sym (pressed-are (e .before)) ∙ passed e) _
-          (c .try-settings .ensures .0 ∙ from-standing (b .score .now) (b .state .now) (b .switches .now) (b .k) _ (c .before .before .before .before .standing-in .ensures));
+          (c .try-settings .ensures .0 ∙ from-standing (b .score .now) (b .state .now) (b .switches .now) (b .k) _ (c .before .before .before .before .before .standing-in .ensures));
     }
 
 pub call-spec : {M : Type 1} → statement M
@@ -145,8 +154,8 @@ call-spec =
     number-of-requires
     returns
     returns-2
-    word-at-requires
-    sizes-of-requires
+    prepare-requires
+    sizes-requires
     state-fault-requires
     returns-3
     switch-fault-requires

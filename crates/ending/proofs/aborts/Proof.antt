@@ -11,7 +11,7 @@ use Rattle.ending.proofs.aborts.Tie as tie
 agent-at-requires : tie.Need-agent-at-requires
 agent-at-requires c κs =
     let b = c .before in
-    (omega (arith, b .pre .1 .0 .whole, ap (λ h. h .agents) (b .pre .0)), omega (arith, ap (λ h. h .agents) (b .pre .0)))
+    (omega (arith, b .pre .0 .whole), b .pre .1)
 
 enum-told : tie.Need-enum-told
 enum-told c = search needs

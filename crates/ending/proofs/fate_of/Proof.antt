@@ -26,7 +26,7 @@ comes held awake e fate bodies p q = (p ∙ ap (fateOf held) (sym e), ap (λ l. 
 agent-at-requires : tie.Need-agent-at-requires
 agent-at-requires c κs =
     let b = c .before in
-    (omega (arith, b .pre .1 .0 .whole, ap (λ h. h .agents) (b .pre .0)), omega (arith, ap (λ h. h .agents) (b .pre .0)))
+    (omega (arith, b .pre .0 .whole), b .pre .1 .0)
 
 enum-told : tie.Need-enum-told
 enum-told c = search needs
@@ -38,7 +38,7 @@ element-copy-out-if1 : tie.Need-element-copy-out-if1
 element-copy-out-if1 c =
     let a = c .before .before .before in
     let b = a .before .before in
-    token-few (b .pre .1 .0) (b .args .i) (sym (a .agent-at .ensures) ∙ c .before .awaited .given .1) (List·Memᴰ·head refl)
+    token-few (b .pre .0) (b .args .i) (sym (a .agent-at .ensures) ∙ c .before .awaited .given .1) (List·Memᴰ·head refl)
 
 returns : tie.Need-returns
 returns c =
@@ -56,7 +56,7 @@ element-write-awake : tie.Need-element-write-awake
 element-write-awake c =
     let a = c .before .before .before in
     let b = a .before .before in
-    omega (arith, part-lower (b .pre .1 .0 .lawful) (b .args .i) (c .before .body .given .0 .0) (sym (a .agent-at .ensures) ∙ c .before .body .given .1) (List·Memᴰ·head refl), agents-few (b .pre .1 .0) (b .pre .0))
+    omega (arith, part-lower (b .pre .0 .lawful) (b .args .i) (c .before .body .given .0 .0) (sym (a .agent-at .ensures) ∙ c .before .body .given .1) (List·Memᴰ·head refl), agents-few (b .pre .0) refl)
 
 enum-known-token : tie.Need-enum-known-token
 enum-known-token c = search needs
@@ -65,7 +65,7 @@ element-copy-out-if2 : tie.Need-element-copy-out-if2
 element-copy-out-if2 c =
     let a = c .before .before .before in
     let b = a .before .before in
-    token-few (b .pre .1 .0) (b .args .i) (sym (a .agent-at .ensures) ∙ c .before .token .given .1) (List·Memᴰ·head refl)
+    token-few (b .pre .0) (b .args .i) (sym (a .agent-at .ensures) ∙ c .before .token .given .1) (List·Memᴰ·head refl)
 
 returns-2 : tie.Need-returns-2
 returns-2 c =
@@ -82,7 +82,7 @@ element-write-awake-2 c =
     let a = c .before .before .before .before .before in
     let b = a .before .before in
     let token = c .before .before .before .token .given in
-    omega (arith, part-lower (b .pre .1 .0 .lawful) (b .args .i) (token .0 .1 .0) (sym (a .agent-at .ensures) ∙ token .1) (List·Memᴰ·head refl), agents-few (b .pre .1 .0) (b .pre .0))
+    omega (arith, part-lower (b .pre .0 .lawful) (b .args .i) (token .0 .1 .0) (sym (a .agent-at .ensures) ∙ token .1) (List·Memᴰ·head refl), agents-few (b .pre .0) refl)
 
 returns-3 : tie.Need-returns-3
 returns-3 c =

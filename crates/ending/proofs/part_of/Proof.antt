@@ -19,17 +19,17 @@ use Rattle.ending.proofs.part_of.Statement.{statement}
 use Rattle.ending.proofs.part_of.Tie as tie
 
 abbrev Inv-loop : tie.InvT-loop
-Inv-loop s head live held k awake₀ from left few reduced₀ j₀ awake reduced j =
+Inv-loop s agents live held k awake₀ from left few reduced₀ j₀ awake reduced j =
     (j ≤ few) × PartRead (decode s) (setOf live) (setOf held) k j awake reduced
 
 abbrev μ-loop : tie.MeasureT-loop
-μ-loop s head live held k awake₀ from left few reduced₀ j₀ awake reduced j = few - j
+μ-loop s agents live held k awake₀ from left few reduced₀ j₀ awake reduced j = few - j
 
 mul-from : tie.Need-mul-from Inv-loop μ-loop
-mul-from c = omega (arith, agents-few (c .before .pre .1 .0) (c .before .pre .0), c .before .pre .1 .1 .0)
+mul-from c = omega (arith, agents-few (c .before .pre .1 .0) refl, c .before .pre .0, c .before .pre .1 .1 .0)
 
 sub-left : tie.Need-sub-left Inv-loop μ-loop
-sub-left c = omega (arith, c .before .before .pre .1 .1 .0)
+sub-left c = omega (arith, c .before .pre .1 .1 .0)
 
 -- how many agents are read
 record Few (agents from few : ℕ) : Type 0 where
@@ -37,26 +37,26 @@ record Few (agents from few : ℕ) : Type 0 where
   within : from + few ≤ agents
   all : few < 32 → agents ≤ from + few
 
-few-known : (c : tie.Joined1 Inv-loop μ-loop) → Few (c .before .before .before .args .head .agents) (32 * c .before .before .before .args .k) (c .if1 .few)
+few-known : (c : tie.Joined1 Inv-loop μ-loop) → Few (c .before .before .args .agents) (32 * c .before .before .args .k) (c .if1 .few)
 few-known c =
-    let b = c .before .before .before in
+    let b = c .before .before in
     let some = b .pre .1 .1 .0 in
     ⊎-elim
-    (λ w. let e : c .if1 .few ≡ b .args .head .agents - 32 * b .args .k = w .1 in let l : b .args .head .agents - 32 * b .args .k < 32 = w .0 .taken in record { most = omega arith; within = omega arith; all = λ h. omega arith })
-    (λ w. let e : c .if1 .few ≡ 32 = w .1 in let l : 32 ≤ b .args .head .agents - 32 * b .args .k = w .0 .left in record { most = omega arith; within = omega arith; all = λ h. omega arith })
+    (λ w. let e : c .if1 .few ≡ b .args .agents - 32 * b .args .k = w .1 in let l : b .args .agents - 32 * b .args .k < 32 = w .0 .taken in record { most = omega arith; within = omega arith; all = λ h. omega arith })
+    (λ w. let e : c .if1 .few ≡ 32 = w .1 in let l : 32 ≤ b .args .agents - 32 * b .args .k = w .0 .left in record { most = omega arith; within = omega arith; all = λ h. omega arith })
     (c .if1 .came)
 
 loop-holds : tie.Need-loop-holds Inv-loop μ-loop
 loop-holds c =
-    let b = c .before .before .before in
+    let b = c .before .before in
     (omega arith, part-none (decode (b .args .s .now)) (setOf (b .args .live .now)) (setOf (b .args .held .now)) (b .args .k) (b .pre .1 .1 .1))
 
 -- agent 32 k + j
-known : (c : tie.In-loop Inv-loop μ-loop) → 32 * c .before .before .before .before .before .args .k + c .before .loop .j < c .before .before .before .before .before .args .head .agents
+known : (c : tie.In-loop Inv-loop μ-loop) → 32 * c .before .before .before .before .args .k + c .before .loop .j < c .before .before .before .before .args .agents
 known c = omega (arith, few-known (c .before .before) .within)
 
-here-few : (c : tie.In-loop Inv-loop μ-loop) → 32 * c .before .before .before .before .before .args .k + c .before .loop .j < 1024
-here-few c = let b = c .before .before .before .before .before in omega (arith, known c, agents-few (b .pre .1 .0) (b .pre .0))
+here-few : (c : tie.In-loop Inv-loop μ-loop) → 32 * c .before .before .before .before .args .k + c .before .loop .j < 1024
+here-few c = let b = c .before .before .before .before in omega (arith, known c, agents-few (b .pre .1 .0) refl, b .pre .0)
 
 add-if2 : tie.Need-add-if2 Inv-loop μ-loop
 add-if2 c = omega (arith, here-few c)
@@ -70,8 +70,8 @@ add-fate-of c = omega (arith, here-few (c .before .before))
 fate-of-requires : tie.Need-fate-of-requires Inv-loop μ-loop
 fate-of-requires c κs =
     let l = c .before .before .before in
-    let b = l .before .before .before .before .before in
-    (b .pre .0, (b .pre .1 .0, (known l, l .before .loop .inv .1 .read .long)))
+    let b = l .before .before .before .before in
+    (b .pre .1 .0, (omega (arith, known l, b .pre .0), l .before .loop .inv .1 .read .long))
 
 enum-told : tie.Need-enum-told Inv-loop μ-loop
 enum-told c = search needs
@@ -80,7 +80,7 @@ returns : tie.Need-returns Inv-loop μ-loop
 returns c =
     let a = c .before .before in
     let l = a .before .before .before .before in
-    let b = l .before .before .before .before .before in
+    let b = l .before .before .before .before in
     let i : ℕ = 32 * b .args .k + l .before .loop .j in
     let held = setOf (b .args .held .now) in
     let sc = decode (b .args .s .now) in
@@ -115,14 +115,14 @@ loop-less c = search needs
 loop-again : tie.Need-loop-again Inv-loop μ-loop
 loop-again c =
     let l = c .before .before in
-    let b = l .before .before .before .before .before in
+    let b = l .before .before .before .before in
     let live = b .args .live .now in
     let held = setOf (b .args .held .now) in
     let sc = decode (b .args .s .now) in
     let k = b .args .k in
     let law = b .pre .1 .0 .lawful in
     let p = l .before .loop .inv .1 in
-    let is-known : 32 * k + l .before .loop .j < length (sc .agents) = omega (arith, known l, agents-all (b .pre .1 .0) (b .pre .0)) in (
+    let is-known : 32 * k + l .before .loop .j < length (sc .agents) = omega (arith, known l, agents-all (b .pre .1 .0) refl, b .pre .0) in (
       omega arith,
       ⊎-elim
           (λ w. part-same sc (setOf live) held k (w .5 ∙ w .2 .ensures .1) (w .6) (part-reduced sc (setOf live) held k p is-known law (flag-member live (w .0 .taken)) (bit-few l) (sym (w .2 .ensures .0) ∙ w .4 .given .1)))
@@ -135,11 +135,11 @@ loop-again c =
 
 returns-2 : tie.Need-returns-2 Inv-loop μ-loop
 returns-2 c =
-    let b = c .before .before .before .before .before in
+    let b = c .before .before .before .before in
     let l = c .before .loop in
     let few = few-known (c .before .before) in
     parted (decode (b .args .s .now)) (setOf (b .args .live .now)) (setOf (b .args .held .now)) (b .args .k) (l .inv .1)
-    (omega (arith, few .most)) (λ short. omega (arith, agents-all (b .pre .1 .0) (b .pre .0), few .all (omega arith)))
+    (omega (arith, few .most)) (λ short. omega (arith, agents-all (b .pre .1 .0) refl, b .pre .0, few .all (omega arith)))
 
 pub part-of-spec : {M : Type 1} → statement M
 part-of-spec =

@@ -27,16 +27,16 @@ returns c =
     (sym (c .if1 .taken) ∙ c .before .any-aborts .ensures)
 
 -- where no live agent aborts: the start, the tokens held, and the trial by the flag of token 0
-abbrev start : tie.Else1 → tie.Start
-start c = c .before .before .before .before .before .before .before .before
+abbrev to-start : tie.Else1 → tie.Start
+to-start c = c .before .before .before .before .before .before .before .before
 
 abbrev held : tie.Else1 → List Bool
 held c = c .before .before .before .settle .result
 
 quiet : (c : tie.Else1) → (b : Bool) → getD (held c) 0 false ≡ b →
-    _≡_ {A = Trial} (record { status = cond b 1 0; store = held c }) (trialOf (instant (decode (start c .args .s .now)) (setOf (start c .args .agents .now)) (setOf (start c .args .inputs .now))))
+    _≡_ {A = Trial} (record { status = cond b 1 0; store = held c }) (trialOf (instant (decode (to-start c .args .s .now)) (setOf (to-start c .args .agents .now)) (setOf (to-start c .args .inputs .now))))
 quiet c =
-    let b = start c in
+    let b = to-start c in
     let marks = c .before .before .before .settle in
     let long : length (held c) ≡ 256 = search needs in
     quiet-trial (decode (b .args .s .now)) (setOf (b .args .agents .now)) (setOf (b .args .inputs .now)) (setOf (marks .last .1 .1 .0)) (held c) (marks .ensures)

@@ -2,7 +2,6 @@
 use mathlib.Core.Path.{_≡_, ap, subst⁻¹, _∙_}
 use borrow.Author.Needs.{needs}
 use Rattle.format.specs.Decode.{sizes}
-use Rattle.scorefile.proofs.Stages.{head-read}
 use Rattle.lent.specs.States.{numbered, LawfulState}
 use Rattle.standing.specs.Standing.{stateIn}
 use Rattle.history.proofs.Starts.{start-lawful, start-bytes}
@@ -11,24 +10,24 @@ use Rattle.history.proofs.write_start.Tie as tie
 
 -- Stations of the walk, each from a later place.
 abbrev to-start : tie.After-write-standing-arg → tie.Start
-to-start c = c .before .before .before .before .before .before
+to-start c = c .before .before .before .before .before .before .before .before
 
-sizes-are : (c : tie.After-sizes-of) → c .sizes-of .result ≡ sizes (c .before .before .before .before .args .score .now)
-sizes-are c = head-read (c .before .before .before .before .args .score .now) (c .before .word-at .ensures) (c .sizes-of .ensures)
+sizes-are : (c : tie.After-sizes) → c .sizes .result ≡ sizes (c .before .before .before .before .before .args .score .now)
+sizes-are c = c .sizes .ensures ∙ c .before .before .prepare .ensures .sized
 
-word-at-requires : tie.Need-word-at-requires
-word-at-requires c κs = search needs
+prepare-requires : tie.Need-prepare-requires
+prepare-requires c κs = search needs
 
-sizes-of-requires : tie.Need-sizes-of-requires
-sizes-of-requires c κs = search needs
+sizes-requires : tie.Need-sizes-requires
+sizes-requires c κs = c .before .prepare .ensures .long
 
 start-requires : tie.Need-start-requires
-start-requires c κs = (sizes-are c, c .before .before .before .before .pre .0)
+start-requires c κs = c .before .before .before .prepare .ensures
 
 write-standing-requires : tie.Need-write-standing-requires
 write-standing-requires c κs =
     let b = to-start c in
-    (b .pre .1, subst⁻¹ (λ h. LawfulState (h .agents) (stateIn (c .before .start .result))) (sizes-are (c .before .before)) (subst⁻¹ (LawfulState (sizes (b .args .score .now) .agents)) (c .before .start .ensures) (start-lawful (b .args .score .now) (b .pre .0))))
+    (b .pre .1, subst⁻¹ (λ h. LawfulState (h .agents) (stateIn (c .before .start .result))) (sizes-are (c .before .before .before)) (subst⁻¹ (LawfulState (sizes (b .args .score .now) .agents)) (c .before .start .ensures) (start-lawful (b .args .score .now) (b .pre .0))))
 
 same-length : tie.Need-same-length
 same-length c = search needs
@@ -42,8 +41,8 @@ pub write-start-spec : {M : Type 1} → statement M
 write-start-spec =
     tie.close
     (tie.spec
-    word-at-requires
-    sizes-of-requires
+    prepare-requires
+    sizes-requires
     start-requires
     write-standing-requires
     same-length

@@ -18,7 +18,7 @@ answer-from-requires : tie.Need-answer-from-requires
 answer-from-requires c κs = search needs
 
 same-length : tie.Need-same-length
-same-length c = ap length (c .before .before .answer-from .ensures .1 ∙ sym (c .before .before .before .before .before .before .before .before .pre .1 .1 .1))
+same-length c = ap length (c .before .before .answer-from .ensures .1 ∙ sym (c .before .before .before .before .before .before .before .before .pre .1 .1))
 
 returns : tie.Need-returns
 returns c =

@@ -13,9 +13,10 @@ use Rattle.tcc.specs.Instant.{Answer, answer}
 use Rattle.format.specs.Decode.{sizes, decode}
 use Rattle.format.specs.Playable.{Playable}
 use Rattle.format.proofs.Decode.{decode-tokens, sizes-few, playable-agents}
+use Rattle.prepared.specs.Prepared.{PreparedFrom}
 use Rattle.verdicts.specs.Verdicts.{numberOf}
 use Rattle.scorefile.specs.Check.{verdict}
-use Rattle.scorefile.proofs.Stages.{head-read, by-head}
+use Rattle.scorefile.proofs.Stages.{by-head}
 use Rattle.scorefile.proofs.Stages as stages
 use Rattle.flags.specs.Flags.{setOf}
 use Rattle.engine.specs.Outcome.{outcomeOf}
@@ -37,10 +38,10 @@ to-start c = c .before .before .before .before .before .before .before .before
 abbrev to-score : tie.Else2 → tie.Else1
 to-score c = c .before .before
 
-abbrev to-lengths : tie.After-sizes-of → tie.Else2
-to-lengths c = c .before .before
+abbrev to-lengths : tie.After-sizes → tie.Else2
+to-lengths c = c .before .before .before
 
-abbrev to-sizes : tie.Else3 → tie.After-sizes-of
+abbrev to-sizes : tie.Else3 → tie.After-sizes
 to-sizes c = c .before .before .before
 
 abbrev to-state : tie.Else4 → tie.Else3
@@ -50,7 +51,7 @@ abbrev to-input : tie.After-number-in → tie.Else4
 to-input c = c .before .before
 
 abbrev to-number : tie.After-answer-in-arg2 → tie.After-number-in
-to-number c = c .before .before .before .before .before .before .before
+to-number c = c .before .before .before .before .before .before .before .before
 
 abbrev to-answer : tie.After-any-from2 → tie.After-answer-in
 to-answer c = c .before .before .before .before .before
@@ -79,8 +80,12 @@ lengths-are c =
 playable : (c : tie.Else1) → Playable (to-start (c .before) .args .score .now)
 playable c = stages.playable (to-start (c .before) .args .score .now) (accepted c)
 
-sizes-are : (c : tie.After-sizes-of) → c .sizes-of .result ≡ sizes (to-start (to-score (to-lengths c) .before) .args .score .now)
-sizes-are c = head-read (to-start (to-score (to-lengths c) .before) .args .score .now) (c .before .word-at .ensures) (c .sizes-of .ensures)
+-- what is worked out of the score, and the sizes that it says
+prepared : (c : tie.After-sizes) → PreparedFrom (to-start (to-score (to-lengths c) .before) .args .score .now) (c .before .before .prepare .result)
+prepared c = c .before .before .prepare .ensures
+
+sizes-are : (c : tie.After-sizes) → c .sizes .result ≡ sizes (to-start (to-score (to-lengths c) .before) .args .score .now)
+sizes-are c = c .sizes .ensures ∙ prepared c .sized
 
 fault-is : (c : tie.After-state-fault) → let b = to-start (to-score (to-lengths (c .before .before)) .before) in c .state-fault .result ≡ stateFault (sizes (b .args .score .now) .agents) (b .args .state .now)
 fault-is c = by-head (λ h. stateFault (h .agents) (to-start (to-score (to-lengths (c .before .before)) .before) .args .state .now)) (sizes-are (c .before .before)) (c .state-fault .ensures)
@@ -139,11 +144,11 @@ returns-2 c =
     let b = to-start (c .before .before .before) in
     record { exits = lengths (b .args .score .now) (b .args .input .now) (buffers b) (accepted (c .before .before)) (sym (lengths-tested (c .before)) ∙ c .if2 .taken) }
 
-word-at-requires : tie.Need-word-at-requires
-word-at-requires c κs = omega (arith, playable (c .before .before) .whole)
+prepare-requires : tie.Need-prepare-requires
+prepare-requires c κs = playable (to-score c)
 
-sizes-of-requires : tie.Need-sizes-of-requires
-sizes-of-requires c κs = search needs
+sizes-requires : tie.Need-sizes-requires
+sizes-requires c κs = c .before .prepare .ensures .long
 
 state-fault-requires : tie.Need-state-fault-requires
 state-fault-requires c κs = omega (arith, lengths-are (to-lengths (c .before)) .state-long)
@@ -201,7 +206,7 @@ answer-in-requires c κs =
     let at-sizes = to-sizes (to-state (to-input (to-number c))) in
     let at-lengths = to-lengths at-sizes in
     let l = lengths-are at-lengths in
-    (sizes-are at-sizes, (playable (to-score at-lengths), (l .state-long, c .before .before .before .before .clear .ensures ∙ ap (λ k. replicate k 0) (l .scratch-long))))
+    (prepared at-sizes, (l .state-long, c .before .before .before .before .before .clear .ensures ∙ ap (λ k. replicate k 0) (l .scratch-long)))
 
 slice-aggregate-any-from-2 : tie.Need-slice-aggregate-any-from-2
 slice-aggregate-any-from-2 c = search needs
@@ -226,7 +231,7 @@ returns-6 c =
     let sc = decode (b .args .score .now) in
     let h = ap (λ x. x .agents) (sizes-are at-sizes) in
     let e = playable-agents (b .args .score .now) (playable at-score) in
-    let none : any (λ i. leb (at-sizes .sizes-of .result .agents) i) (setOf (at-answer .answer-in .result .awake)) ≡ false =
+    let none : any (λ i. leb (at-sizes .sizes .result .agents) i) (setOf (at-answer .answer-in .result .awake)) ≡ false =
     from-none _ _ (λ i le. ap (λ o. getD (o .awake) i false) (outcome-is at-answer) ∙ flags-known 1024 (length (sc .agents)) (answer-of b .awake) (inside at-input .agents) i (omega (arith, h, e))) in
     absurd (true≢false (sym (c .if6 .taken) ∙ c .before .any-from2 .ensures ∙ none))
 
@@ -236,28 +241,25 @@ add-hand-over c = search needs
 hand-over-requires : tie.Need-hand-over-requires
 unfolding outcomeOf
 hand-over-requires c κs =
-    let at-answer = to-answer (c .before .before .before .before) in
+    let at-answer = to-answer (c .before .before .before .before .before) in
     let at-input = to-input (to-number (at-answer .before)) in
     let at-sizes = to-sizes (to-state at-input) in
     let at-lengths = to-lengths at-sizes in
     let at-score = to-score at-lengths in
     let b = to-start (at-score .before) in
-    let a = c .before .before .before in
+    let a = c .before .before .before .before in
     let l = lengths-are at-lengths in
     let h = sizes-are at-sizes in (
-      h,
+      prepared at-sizes,
       (
-        playable at-score,
-        (
-          record { state-bytes = l .state-long; store-bytes = l .store-long; output-bytes = l .output-long },
-          record {
-            agents = none-from _ _ (sym (c .before .before .before .before .any-from2 .ensures) ∙ a .if6 .left);
-            tokens =
-                λ t le.
-                ap (λ o. getD (o .store) t false) (outcome-is at-answer)
-                ∙ flags-known 256 (decode (b .args .score .now) .tokens) (answer-of b .store) (inside at-input .tokens) t (omega (arith, decode-tokens (b .args .score .now), ap (λ x. x .tokens) h));
-          },
-        ),
+        record { state-bytes = l .state-long; store-bytes = l .store-long; output-bytes = l .output-long },
+        record {
+          agents = λ i le. none-from _ _ (sym (c .before .before .before .before .before .any-from2 .ensures) ∙ a .if6 .left) i (omega (arith, ap (λ x. x .agents) h));
+          tokens =
+              λ t le.
+              ap (λ o. getD (o .store) t false) (outcome-is at-answer)
+              ∙ flags-known 256 (decode (b .args .score .now) .tokens) (answer-of b .store) (inside at-input .tokens) t (omega (arith, decode-tokens (b .args .score .now)));
+        },
       ),
     )
 
@@ -276,7 +278,7 @@ same-length-9 c = search needs
 returns-7 : tie.Need-returns-7
 returns-7 c =
     let at-hand-over = to-hand-over c in
-    let at-answer = to-answer (at-hand-over .before .before .before .before .before) in
+    let at-answer = to-answer (at-hand-over .before .before .before .before .before .before) in
     let at-number = to-number (at-answer .before) in
     let at-input = to-input at-number in
     let at-state = to-state at-input in
@@ -294,7 +296,7 @@ returns-7 c =
     record {
       exits =
           handed sc a (omega arith) (omega arith) i (outcome-is at-answer) (at-hand-over .hand-over .ensures) (b .args .state .now) (add-one (at-number .number-in .result) ∙ ap suc (at-number .number-in .ensures)) (at-answer .answer-in .ensures .1)
-          (settled s (b .args .input .now) (buffers b) (accepted at-score) (long at-lengths) (state-lawful at-state) (tokens-known at-input) (at-number .number-in .ensures) (at-answer .before .before .before .before .before .before .before .if5 .left) a refl (next-lawful sc a (sizes s .agents) n (omega arith) i));
+          (settled s (b .args .input .now) (buffers b) (accepted at-score) (long at-lengths) (state-lawful at-state) (tokens-known at-input) (at-number .number-in .ensures) (at-answer .before .before .before .before .before .before .before .before .if5 .left) a refl (next-lawful sc a (sizes s .agents) n (omega arith) i));
     }
 
 pub call-spec : {M : Type 1} → statement M
@@ -306,8 +308,8 @@ call-spec =
     returns
     wrong-length-requires
     returns-2
-    word-at-requires
-    sizes-of-requires
+    prepare-requires
+    sizes-requires
     state-fault-requires
     same-length
     returns-3

@@ -6,9 +6,10 @@ use mathlib.Core.Bool.{true}
 use lib.ListN.{replicate}
 use Rattle.format.specs.Decode.{sizes}
 use Rattle.format.specs.Playable.{Playable}
+use Rattle.prepared.specs.Prepared.{PreparedFrom}
 use Rattle.verdicts.specs.Verdicts.{numberOf}
 use Rattle.scorefile.specs.Check.{verdict}
-use Rattle.scorefile.proofs.Stages.{head-read, by-head}
+use Rattle.scorefile.proofs.Stages.{by-head}
 use Rattle.scorefile.proofs.Stages as stages
 use Rattle.form.specs.Form.{formOf}
 use Rattle.journalcheck.proofs.CheckExits.{turned, lengths, not-whole, against, read}
@@ -20,13 +21,13 @@ abbrev to-start : tie.After-number-of → tie.Start
 to-start c = c .before .before .before .before .before
 
 abbrev to-lengths : tie.After-form-of → tie.Else2
-to-lengths c = c .before .before .before
+to-lengths c = c .before .before .before .before
 
 abbrev to-form : tie.After-enum-told2 → tie.After-form-of
 to-form c = c .before .before
 
 abbrev to-good : tie.After-check-list-arg → tie.After-enum-told2
-to-good c = c .before .before .before .before .before
+to-good c = c .before .before .before .before .before .before
 
 accepted : (c : tie.Else1) → numberOf (verdict (to-start (c .before) .args .score .now)) ≡ 0
 accepted c = stages.accepted (to-start (c .before) .args .score .now) (c .before .number-of .ensures) (c .before .before .check .ensures) (c .if1 .left)
@@ -34,8 +35,12 @@ accepted c = stages.accepted (to-start (c .before) .args .score .now) (c .before
 playable : (c : tie.Else1) → Playable (to-start (c .before) .args .score .now)
 playable c = stages.playable (to-start (c .before) .args .score .now) (accepted c)
 
-sizes-are : (c : tie.After-sizes-of) → c .sizes-of .result ≡ sizes (to-start (c .before .before .before .before) .args .score .now)
-sizes-are c = head-read (to-start (c .before .before .before .before) .args .score .now) (c .before .word-at .ensures) (c .sizes-of .ensures)
+-- what is worked out of the score, and the sizes that it says
+prepared : (c : tie.After-sizes) → PreparedFrom (to-start (c .before .before .before .before .before) .args .score .now) (c .before .before .prepare .result)
+prepared c = c .before .before .prepare .ensures
+
+sizes-are : (c : tie.After-sizes) → c .sizes .result ≡ sizes (to-start (c .before .before .before .before .before) .args .score .now)
+sizes-are c = c .sizes .ensures ∙ prepared c .sized
 
 form-is : (c : tie.After-form-of) → let b = to-start (to-lengths c .before .before) in
     formOf true (sizes (b .args .score .now) .tokens) (b .args .journal .now) ≡ c .form-of .result
@@ -59,11 +64,11 @@ returns-2 c =
     let b = to-start (c .before .before) in
     record { exits = lengths (b .args .score .now) (b .args .journal .now) (b .args .scratch .now) (accepted (c .before)) (c .if2 .taken) }
 
-word-at-requires : tie.Need-word-at-requires
-word-at-requires c κs = omega (arith, playable (c .before) .whole)
+prepare-requires : tie.Need-prepare-requires
+prepare-requires c κs = playable (c .before)
 
-sizes-of-requires : tie.Need-sizes-of-requires
-sizes-of-requires c κs = search needs
+sizes-requires : tie.Need-sizes-requires
+sizes-requires c κs = c .before .prepare .ensures .long
 
 form-of-requires : tie.Need-form-of-requires
 form-of-requires c κs = search needs
@@ -85,7 +90,7 @@ check-list-requires c κs =
     let at-good = to-good c in
     let at-form = to-form at-good in
     let at-lengths = to-lengths at-form in
-    (sizes-are (at-form .before), (playable (at-lengths .before), (form-is at-form ∙ at-good .enum-told2 .given .1, c .before .before .before .clear .ensures ∙ ap (λ k. replicate k 0) (at-lengths .if2 .left))))
+    (prepared (at-form .before), (form-is at-form ∙ at-good .enum-told2 .given .1, c .before .before .before .before .clear .ensures ∙ ap (λ k. replicate k 0) (at-lengths .if2 .left)))
 
 returns-3 : tie.Need-returns-3
 returns-3 c =
@@ -126,8 +131,8 @@ call-spec =
     number-of-requires
     returns
     returns-2
-    word-at-requires
-    sizes-of-requires
+    prepare-requires
+    sizes-requires
     form-of-requires
     enum-told
     enum-known-k

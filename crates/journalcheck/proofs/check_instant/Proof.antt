@@ -27,7 +27,7 @@ out-long : (c : tie.After-step-from) → length (c .step-from .result .out) ≡ 
 out-long c = search needs
 
 told-known : (c : tie.After-tokens-in) (t : ℕ) → sizes (c .before .before .before .before .args .score .now) .tokens ≤ t → getD (c .tokens-in .result) t false ≡ false
-told-known c = let b = c .before .before .before .before in from.told-known (sizes (b .args .score .now) .tokens) (sizes-few (b .args .score .now) .0) (c .tokens-in .ensures) (b .pre .1 .1 .1 .0 .inputs)
+told-known c = let b = c .before .before .before .before in from.told-known (sizes (b .args .score .now) .tokens) (sizes-few (b .args .score .now) .0) (c .tokens-in .ensures) (b .pre .1 .1 .0 .inputs)
 
 tokens-in-requires : tie.Need-tokens-in-requires
 tokens-in-requires c κs = search needs
@@ -35,7 +35,7 @@ tokens-in-requires c κs = search needs
 step-from-requires : tie.Need-step-from-requires
 step-from-requires c κs =
     let b = to-start c in
-    (b .pre .0, (b .pre .1 .0, (b .pre .1 .1 .0, (told-known (c .before), b .pre .1 .1 .1 .1))))
+    (b .pre .0, (b .pre .1 .0, (told-known (c .before), b .pre .1 .1 .1)))
 
 slice-aggregate-differs-from : tie.Need-slice-aggregate-differs-from
 slice-aggregate-differs-from c = search needs
@@ -45,12 +45,12 @@ differs-from-requires c κs =
     let b = to-start (to-step c .before) in
     let step = to-step c in
     let s = b .args .score .now in
-    (formed-wide (sizes s .tokens) (sizes-few s .0) (b .pre .1 .1 .1 .0), (status-few s (b .pre .1 .0) (stateIn (b .args .standing)) (setOf (step .before .before .tokens-in .result)) (step .step-from .ensures .0), out-long step))
+    (formed-wide (sizes s .tokens) (sizes-few s .0) (b .pre .1 .1 .0), (status-few s (b .pre .0 .playable) (stateIn (b .args .standing)) (setOf (step .before .before .tokens-in .result)) (step .step-from .ensures .0), out-long step))
 
 same-length : tie.Need-same-length
 same-length c =
     let at-step = to-step (c .before) in
-    ap length (at-step .step-from .ensures .1 ∙ sym (to-start (at-step .before) .pre .1 .1 .1 .1))
+    ap length (at-step .step-from .ensures .1 ∙ sym (to-start (at-step .before) .pre .1 .1 .1))
 
 returns : tie.Need-returns
 returns c =
@@ -59,7 +59,7 @@ returns c =
     let told = at-step .before .before .tokens-in in
     let step = at-step .step-from in
     let s = b .args .score .now in (
-      held s (b .pre .1 .0) (stateIn (b .args .standing)) (words (b .args .here .now)) (told .result) (told-set (sizes s .tokens) (sizes-few s .0) (told .ensures) (b .pre .1 .1 .1 .0 .inputs))
+      held s (b .pre .0 .playable) (stateIn (b .args .standing)) (words (b .args .here .now)) (told .result) (told-set (sizes s .tokens) (sizes-few s .0) (told .ensures) (b .pre .1 .1 .0 .inputs))
           (step .result) (step .ensures .0) _ refl (c .differs-from .ensures) refl,
       step .ensures .1,
     )

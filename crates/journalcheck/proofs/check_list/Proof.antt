@@ -10,10 +10,10 @@ use Rattle.journalcheck.proofs.check_list.Statement.{statement}
 use Rattle.journalcheck.proofs.check_list.Tie as tie
 
 abbrev Inv-loop : tie.InvT-loop
-Inv-loop score head journal scratch₀ stands₀ instants₀ at₀ scratch stands instants at = Checking score journal stands instants at × (scratch ≡ noScratch)
+Inv-loop score prepared journal scratch₀ stands₀ instants₀ at₀ scratch stands instants at = Checking score journal stands instants at × (scratch ≡ noScratch)
 
 abbrev μ-loop : tie.MeasureT-loop
-μ-loop score head journal scratch₀ stands₀ instants₀ at₀ scratch stands instants at = length journal - at
+μ-loop score prepared journal scratch₀ stands₀ instants₀ at₀ scratch stands instants at = length journal - at
 
 -- Stations of the walk, each from a later place.
 abbrev to-start : tie.At-loop Inv-loop μ-loop → tie.Start Inv-loop μ-loop
@@ -35,7 +35,7 @@ start-requires c κs = search needs
 loop-holds : tie.Need-loop-holds Inv-loop μ-loop
 loop-holds c =
     let b = c .before .before .before .before in
-    (checking-none (b .args .score .now) (b .args .journal .now) (c .start .result) (b .pre .1 .0) (b .pre .1 .1 .0) (λ i. omega (arith, c .before .before .shared-slice-known2 .given i)) (c .start .ensures), b .pre .1 .1 .1)
+    (checking-none (b .args .score .now) (b .args .journal .now) (c .start .result) (b .pre .0 .playable) (b .pre .1 .0) (λ i. omega (arith, c .before .before .shared-slice-known2 .given i)) (c .start .ensures), b .pre .1 .1)
 
 part-requires : tie.Need-part-requires Inv-loop μ-loop
 part-requires c κs = search needs
@@ -44,12 +44,12 @@ check-instant-requires : tie.Need-check-instant-requires Inv-loop μ-loop
 check-instant-requires c κs =
     let at-part = c .before in
     let b = to-start (at-part .before .before) in
-    (b .pre .0, (b .pre .1 .0, (at-part .before .before .loop .inv .0 .lawful, (first-formed (turn (c .before)), at-part .before .before .loop .inv .1))))
+    (b .pre .0, (at-part .before .before .loop .inv .0 .lawful, (first-formed (turn (c .before)), at-part .before .before .loop .inv .1)))
 
 same-length : tie.Need-same-length Inv-loop μ-loop
 same-length c =
     let at-check-instant = c .before .before .before in
-    ap length (at-check-instant .check-instant .ensures .1 ∙ sym (to-start (to-part at-check-instant .before .before) .pre .1 .1 .1))
+    ap length (at-check-instant .check-instant .ensures .1 ∙ sym (to-start (to-part at-check-instant .before .before) .pre .1 .1))
 
 returns : tie.Need-returns Inv-loop μ-loop
 returns c =
@@ -62,7 +62,7 @@ cast-if2 c = search needs
 same-length-2 : tie.Need-same-length-2 Inv-loop μ-loop
 same-length-2 c =
     let at-check-instant = to-check-instant (c .before) in
-    ap length (at-check-instant .check-instant .ensures .1 ∙ sym (to-start (to-part at-check-instant .before .before) .pre .1 .1 .1))
+    ap length (at-check-instant .check-instant .ensures .1 ∙ sym (to-start (to-part at-check-instant .before .before) .pre .1 .1))
 
 returns-2 : tie.Need-returns-2 Inv-loop μ-loop
 returns-2 c =
@@ -85,7 +85,7 @@ loop-again c =
     (checking-more (turn (to-part at-check-instant)) (h .result) (h .ensures .0) (c .before .before .before .if1 .left) (c .before .if2 .left), h .ensures .1)
 
 same-length-3 : tie.Need-same-length-3 Inv-loop μ-loop
-same-length-3 c = ap length (c .before .loop .inv .1 ∙ sym (to-start (c .before) .pre .1 .1 .1))
+same-length-3 c = ap length (c .before .loop .inv .1 ∙ sym (to-start (c .before) .pre .1 .1))
 
 returns-3 : tie.Need-returns-3 Inv-loop μ-loop
 returns-3 c = (checking-end (c .before .loop .inv .0) (c .loop-test .left), c .before .loop .inv .1)

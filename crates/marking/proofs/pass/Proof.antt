@@ -5,7 +5,7 @@ use Prim.Native.Nat.{_+_, _-_, _≤_}
 use native.Mathlib.Omega.{arith}
 use borrow.Author.Tests.{not-true, not-false}
 use Rattle.laws.proofs.Booleans.{true-is-false}
-use Rattle.format.specs.Decode.{decode}
+use Rattle.format.specs.Decode.{sizes, decode}
 use Rattle.flags.specs.Flags.{setOf}
 use Rattle.flags.proofs.Flags.{member-flag}
 use Rattle.format.proofs.Known.{agents-all, agents-few, token-few, procedure-known}
@@ -17,38 +17,47 @@ use Rattle.marking.proofs.pass.Statement.{statement}
 use Rattle.marking.proofs.pass.Tie as tie
 
 abbrev Inv-loop : tie.InvT-loop
-Inv-loop s head live₀ held₀ grew₀ i₀ live held grew i = (i ≤ head .agents) × Passed (decode s) i live₀ held₀ live held grew
+Inv-loop s prepared live₀ held₀ head grew₀ i₀ live held grew i = (i ≤ head .agents) × Passed (decode s) i live₀ held₀ live held grew
 
 abbrev μ-loop : tie.MeasureT-loop
-μ-loop s head live₀ held₀ grew₀ i₀ live held grew i = i
+μ-loop s prepared live₀ held₀ head grew₀ i₀ live held grew i = i
+
+sizes-requires : tie.Need-sizes-requires Inv-loop μ-loop
+sizes-requires c κs = c .before .pre .0 .long
+
+head-is : (c : tie.After-sizes Inv-loop μ-loop) → c .sizes .result ≡ sizes (c .before .before .args .s .now)
+head-is c = c .sizes .ensures ∙ c .before .before .pre .0 .sized
 
 loop-holds : tie.Need-loop-holds Inv-loop μ-loop
 loop-holds c =
-    let b = c .before in
-    (omega arith, passed-none (decode (b .args .s .now)) (b .args .live .now) (b .args .held .now) (b .args .head .agents) (b .pre .1 .1 .0) (b .pre .1 .1 .1) (omega (arith, agents-all (b .pre .1 .0) (b .pre .0))))
+    let b = c .before .before in
+    (omega arith, passed-none (decode (b .args .s .now)) (b .args .live .now) (b .args .held .now) (c .sizes .result .agents) (b .pre .1 .0) (b .pre .1 .1) (omega (arith, agents-all (b .pre .0 .playable) (head-is c))))
 
 sub-i : tie.Need-sub-i Inv-loop μ-loop
 sub-i c = search needs
 
 element-copy-out-if1 : tie.Need-element-copy-out-if1 Inv-loop μ-loop
-element-copy-out-if1 c = let b = c .before .before .before in omega (arith, agents-few (b .pre .1 .0) (b .pre .0))
+element-copy-out-if1 c = let h = c .before .before in
+    let b = h .before .before in omega (arith, agents-few (b .pre .0 .playable) (head-is h))
 
 agent-at-requires : tie.Need-agent-at-requires Inv-loop μ-loop
 agent-at-requires c κs =
-    let b = c .before .before .before .before .before in
-    (omega (arith, b .pre .1 .0 .whole, ap (λ h. h .agents) (b .pre .0)), omega (arith, ap (λ h. h .agents) (b .pre .0)))
+    let h = c .before .before .before .before in
+    let b = h .before .before in
+    (omega (arith, b .pre .0 .playable .whole, ap (λ h. h .agents) (head-is h)), omega (arith, ap (λ h. h .agents) (head-is h)))
 
 coming : (c : tie.After-agent-at Inv-loop μ-loop) →
-    Coming (decode (c .before .before .before .before .before .before .args .s .now)) (c .before .before .before .before .loop .i - 1)
-    (c .before .before .before .before .before .before .args .live .now) (c .before .before .before .before .before .before .args .held .now)
+    Coming (decode (c .before .before .before .before .before .before .before .args .s .now)) (c .before .before .before .before .loop .i - 1)
+    (c .before .before .before .before .before .before .before .args .live .now) (c .before .before .before .before .before .before .before .args .held .now)
     (c .before .before .before .before .loop .live) (c .before .before .before .before .loop .held) (c .before .before .before .before .loop .grew)
 coming c =
-    let b = c .before .before .before .before .before .before in
+    let h = c .before .before .before .before .before in
+    let b = h .before .before in
     let l = c .before .before .before .before .loop in
     let next : l .i ≡ l .i - 1 + 1 = omega arith in
     record {
-      lawful = b .pre .1 .0 .lawful;
-      known = omega (arith, agents-few (b .pre .1 .0) (b .pre .0));
+      lawful = b .pre .0 .playable .lawful;
+      known = omega (arith, agents-few (b .pre .0 .playable) (head-is h));
       passed = subst (λ n. Passed (decode (b .args .s .now)) n (b .args .live .now) (b .args .held .now) (l .live) (l .held) (l .grew)) next (l .inv .1);
       here = c .before .if1 .taken;
     }
@@ -59,14 +68,14 @@ enum-known-token c = search needs
 element-copy-out-if2 : tie.Need-element-copy-out-if2 Inv-loop μ-loop
 element-copy-out-if2 c =
     let a = c .before .before .before in
-    let b = a .before .before .before .before .before .before in
-    token-few (b .pre .1 .0) (a .before .before .before .before .loop .i - 1) (sym (a .agent-at .ensures) ∙ c .before .token .given .1) (List·Memᴰ·head refl)
+    let b = a .before .before .before .before .before .before .before in
+    token-few (b .pre .0 .playable) (a .before .before .before .before .loop .i - 1) (sym (a .agent-at .ensures) ∙ c .before .token .given .1) (List·Memᴰ·head refl)
 
 element-write-held : tie.Need-element-write-held Inv-loop μ-loop
 element-write-held c =
     let a = c .before .before .before .before .before in
-    let b = a .before .before .before .before .before .before in
-    omega (arith, token-few (b .pre .1 .0) (a .before .before .before .before .loop .i - 1) (sym (a .agent-at .ensures) ∙ c .before .before .before .token .given .1) (List·Memᴰ·head refl))
+    let b = a .before .before .before .before .before .before .before in
+    omega (arith, token-few (b .pre .0 .playable) (a .before .before .before .before .loop .i - 1) (sym (a .agent-at .ensures) ∙ c .before .before .before .token .given .1) (List·Memᴰ·head refl))
 
 loop-less : tie.Need-loop-less Inv-loop μ-loop
 loop-less c = search needs
@@ -108,8 +117,8 @@ enum-known-token-2 c = search needs
 element-copy-out-if3 : tie.Need-element-copy-out-if3 Inv-loop μ-loop
 element-copy-out-if3 c =
     let a = c .before .before .before in
-    let b = a .before .before .before .before .before .before in
-    token-few (b .pre .1 .0) (a .before .before .before .before .loop .i - 1) (sym (a .agent-at .ensures) ∙ c .before .token2 .given .1) (List·Memᴰ·head refl)
+    let b = a .before .before .before .before .before .before .before in
+    token-few (b .pre .0 .playable) (a .before .before .before .before .loop .i - 1) (sym (a .agent-at .ensures) ∙ c .before .token2 .given .1) (List·Memᴰ·head refl)
 
 element-write-live-3 : tie.Need-element-write-live-3 Inv-loop μ-loop
 element-write-live-3 c =
@@ -138,10 +147,11 @@ enum-known-procedure c = search needs
 root-of-requires : tie.Need-root-of-requires Inv-loop μ-loop
 root-of-requires c κs =
     let a = c .before .before .before in
-    let b = a .before .before .before .before .before .before in
-    let known = procedure-known (b .pre .1 .0) (a .before .before .before .before .loop .i - 1) (sym (a .agent-at .ensures) ∙ c .before .procedure .given .1) (List·Memᴰ·head refl) in
-    let e = ap (λ h. h .agents) (b .pre .0) in
-    (omega (arith, b .pre .1 .0 .whole), (e, known))
+    let h = a .before .before .before .before .before in
+    let b = h .before .before in
+    let known = procedure-known (b .pre .0 .playable) (a .before .before .before .before .loop .i - 1) (sym (a .agent-at .ensures) ∙ c .before .procedure .given .1) (List·Memᴰ·head refl) in
+    let e = ap (λ h. h .agents) (head-is h) in
+    (omega (arith, b .pre .0 .playable .whole), (e, known))
 
 element-copy-out-if4 : tie.Need-element-copy-out-if4 Inv-loop μ-loop
 element-copy-out-if4 c =
@@ -176,7 +186,7 @@ loop-less-8 c = search needs
 loop-again-8 : tie.Need-loop-again-8 Inv-loop μ-loop
 loop-again-8 c =
     let a = c .before in
-    let b = a .before .before .before .before .before .before in
+    let b = a .before .before .before .before .before .before .before in
     let l = a .before .before .before .before .loop in
     (omega arith, served-here (coming a) (subst (Served (decode (b .args .s .now)) (setOf (l .live)) (setOf (l .held))) (a .agent-at .ensures) (idle _ _ _ (a .agent-at .result) (c .match .keys5))))
 
@@ -185,13 +195,13 @@ loop-less-9 c = search needs
 
 loop-again-9 : tie.Need-loop-again-9 Inv-loop μ-loop
 loop-again-9 c =
-    let b = c .before .before .before .before .before in
+    let b = c .before .before .before .before .before .before in
     let l = c .before .before .before .loop in
     (omega arith, passed-by (decode (b .args .s .now)) (l .i) (b .args .live .now) (b .args .held .now) (l .live) (l .held) (l .grew) (l .inv .1) (l .i - 1) (omega arith) (λ m. absurd (true-is-false (member-flag (l .live) m) (c .if1 .left))))
 
 returns : tie.Need-returns Inv-loop μ-loop
 returns c =
-    let b = c .before .before .before in
+    let b = c .before .before .before .before in
     let l = c .before .loop in
     let z : l .i ≡ 0 = omega arith in
     subst (λ n. Passed (decode (b .args .s .now)) n (b .args .live .now) (b .args .held .now) (l .live) (l .held) (l .grew)) z (l .inv .1)
@@ -202,6 +212,7 @@ pass-spec =
     (tie.spec
     Inv-loop
     μ-loop
+    sizes-requires
     loop-holds
     sub-i
     element-copy-out-if1

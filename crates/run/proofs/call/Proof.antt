@@ -6,9 +6,10 @@ use lib.ListN.{replicate}
 use mathlib.Core.Bool.{false}
 use Rattle.format.specs.Decode.{sizes}
 use Rattle.format.specs.Playable.{Playable}
+use Rattle.prepared.specs.Prepared.{PreparedFrom}
 use Rattle.verdicts.specs.Verdicts.{numberOf}
 use Rattle.scorefile.specs.Check.{verdict}
-use Rattle.scorefile.proofs.Stages.{head-read, by-head}
+use Rattle.scorefile.proofs.Stages.{by-head}
 use Rattle.scorefile.proofs.Stages as stages
 use Rattle.lent.specs.States.{stateFault}
 use Rattle.form.specs.Form.{formOf}
@@ -24,17 +25,17 @@ to-start c = c .before .before .before .before .before .before .before
 abbrev to-score : tie.Else2 → tie.Else1
 to-score c = c .before .before
 
-abbrev to-lengths : tie.After-sizes-of → tie.Else2
-to-lengths c = c .before .before
+abbrev to-lengths : tie.After-sizes → tie.Else2
+to-lengths c = c .before .before .before
 
-abbrev to-sizes : tie.Else3 → tie.After-sizes-of
+abbrev to-sizes : tie.Else3 → tie.After-sizes
 to-sizes c = c .before .before .before
 
 abbrev to-form : tie.After-enum-told2 → tie.After-form-of
 to-form c = c .before .before
 
 abbrev to-good : tie.After-run-from-arg3 → tie.After-enum-told2
-to-good c = c .before .before .before .before .before .before .before
+to-good c = c .before .before .before .before .before .before .before .before
 
 abbrev to-run : tie.After-slice-known7 → tie.After-run-from
 to-run c = c .before .before .before .before .before .before
@@ -51,8 +52,12 @@ long c = sym (c .before .wrong-length .ensures) ∙ c .if2 .left
 playable : (c : tie.Else1) → Playable (to-start (c .before) .args .score .now)
 playable c = stages.playable (to-start (c .before) .args .score .now) (accepted c)
 
-sizes-are : (c : tie.After-sizes-of) → c .sizes-of .result ≡ sizes (to-start (to-score (to-lengths c) .before) .args .score .now)
-sizes-are c = head-read (to-start (to-score (to-lengths c) .before) .args .score .now) (c .before .word-at .ensures) (c .sizes-of .ensures)
+-- what is worked out of the score, and the sizes that it says
+prepared : (c : tie.After-sizes) → PreparedFrom (to-start (to-score (to-lengths c) .before) .args .score .now) (c .before .before .prepare .result)
+prepared c = c .before .before .prepare .ensures
+
+sizes-are : (c : tie.After-sizes) → c .sizes .result ≡ sizes (to-start (to-score (to-lengths c) .before) .args .score .now)
+sizes-are c = c .sizes .ensures ∙ prepared c .sized
 
 fault-is : (c : tie.After-state-fault) → let b = to-start (to-score (to-lengths (c .before .before)) .before) in c .state-fault .result ≡ stateFault (sizes (b .args .score .now) .agents) (b .args .state .now)
 fault-is c = by-head (λ h. stateFault (h .agents) (to-start (to-score (to-lengths (c .before .before)) .before) .args .state .now)) (sizes-are (c .before .before)) (c .state-fault .ensures)
@@ -84,11 +89,11 @@ returns-2 c =
     let b = to-start (c .before .before .before) in
     record { exits = lengths (b .args .score .now) (b .args .inputs .now) (buffers b) (accepted (c .before .before)) (sym (c .before .wrong-length .ensures) ∙ c .if2 .taken) }
 
-word-at-requires : tie.Need-word-at-requires
-word-at-requires c κs = omega (arith, playable (c .before .before) .whole)
+prepare-requires : tie.Need-prepare-requires
+prepare-requires c κs = playable (to-score c)
 
-sizes-of-requires : tie.Need-sizes-of-requires
-sizes-of-requires c κs = search needs
+sizes-requires : tie.Need-sizes-requires
+sizes-requires c κs = c .before .prepare .ensures .long
 
 state-fault-requires : tie.Need-state-fault-requires
 state-fault-requires c κs =
@@ -129,7 +134,7 @@ run-from-requires c κs =
     let at-lengths = to-lengths at-sizes in
     let at-score = to-score at-lengths in
     let l = right-lengths (buffers (to-start (at-score .before))) (long at-lengths) in
-    (sizes-are at-sizes, (playable at-score, (l .state-long, (lawful at-state, (sym (form-is at-form) ∙ at-good .enum-told2 .given .1, c .before .before .before .before .before .clear .ensures ∙ ap (λ n. replicate n 0) (l .scratch-long))))))
+    (prepared at-sizes, (l .state-long, (lawful at-state, (sym (form-is at-form) ∙ at-good .enum-told2 .given .1, c .before .before .before .before .before .before .clear .ensures ∙ ap (λ n. replicate n 0) (l .scratch-long)))))
 
 same-length-2 : tie.Need-same-length-2
 same-length-2 c = search needs
@@ -187,8 +192,8 @@ call-spec =
     returns
     wrong-length-requires
     returns-2
-    word-at-requires
-    sizes-of-requires
+    prepare-requires
+    sizes-requires
     state-fault-requires
     same-length
     returns-3

@@ -30,12 +30,12 @@ use Rattle.runlist.proofs.run_list.Statement.{statement}
 use Rattle.runlist.proofs.run_list.Tie as tie
 
 abbrev Inv-loop : tie.InvT-loop
-Inv-loop score head number inputs journal₀ scratch₀ stands₀ reached₀ instants₀ at₀ filled₀ journal scratch stands reached instants at filled =
+Inv-loop score prepared number inputs journal₀ scratch₀ stands₀ reached₀ instants₀ at₀ filled₀ journal scratch stands reached instants at filled =
     Reading (sizes score .tokens) inputs at × (LawfulState (sizes score .agents) (stateIn stands) × ((length journal ≡ length journal₀) × ((filled ≤ length journal) × (((instants ≤ at) × (reached ≤ lastNumber))
     × (((s : List ℕ) → stateOf s ≡ stateIn stands₀ → instantNumber s ≡ reached₀ → Half score inputs s journal₀ journal stands reached instants at filled) × (scratch ≡ noScratch))))))
 
 abbrev μ-loop : tie.MeasureT-loop
-μ-loop score head number inputs journal₀ scratch₀ stands₀ reached₀ instants₀ at₀ filled₀ journal scratch stands reached instants at filled = length inputs - at
+μ-loop score prepared number inputs journal₀ scratch₀ stands₀ reached₀ instants₀ at₀ filled₀ journal scratch stands reached instants at filled = length inputs - at
 
 -- Stations of the walk, each from a later place.
 abbrev to-start : tie.At-loop Inv-loop μ-loop → tie.Start Inv-loop μ-loop
@@ -56,7 +56,7 @@ loop-holds c =
     let s = b .args .score .now in
     let j = b .args .journal .now in
     let st = b .args .standing in
-    (reading-none false (sizes s .tokens) (b .args .inputs .now) (b .pre .1 .1 .1 .0), (b .pre .1 .1 .0, (refl, (omega arith, ((omega arith, omega (arith, b .fits .number)), (λ s₀ e m. half-none s (b .args .inputs .now) s₀ j st (b .args .number) e m, b .pre .1 .1 .1 .1))))))
+    (reading-none false (sizes s .tokens) (b .args .inputs .now) (b .pre .1 .1 .0), (b .pre .1 .0, (refl, (omega arith, ((omega arith, omega (arith, b .fits .number)), (λ s₀ e m. half-none s (b .args .inputs .now) s₀ j st (b .args .number) e m, b .pre .1 .1 .1))))))
 
 part-requires : tie.Need-part-requires Inv-loop μ-loop
 part-requires c κs = search needs
@@ -74,7 +74,7 @@ part-advance-end : tie.Need-part-advance-end Inv-loop μ-loop
 part-advance-end c = search needs
 
 few : (c : tie.Start Inv-loop μ-loop) → sizes (c .args .score .now) .tokens ≤ 256
-few c = omega (arith, decode-tokens (c .args .score .now), c .pre .1 .0 .lawful .most-tokens)
+few c = omega (arith, decode-tokens (c .args .score .now), c .pre .0 .playable .lawful .most-tokens)
 
 -- the instant that is read
 next-at : (c : tie.After-tokens-in Inv-loop μ-loop) → let b = to-start (to-loop c) in Next (sizes (b .args .score .now) .tokens) (b .args .inputs .now) (to-loop c .loop .at) (c .before .part .result .now)
@@ -98,7 +98,7 @@ advance-requires : tie.Need-advance-requires Inv-loop μ-loop
 advance-requires c κs =
     let at-loop = to-loop (c .before .before) in
     let b = to-start at-loop in
-    (b .pre .0, (b .pre .1 .0, (at-loop .loop .inv .1 .0, (told-known (c .before .before), at-loop .loop .inv .1 .1 .1 .1 .1 .1))))
+    (b .pre .0, (at-loop .loop .inv .1 .0, (told-known (c .before .before), at-loop .loop .inv .1 .1 .1 .1 .1 .1)))
 
 lists-at : (c : tie.After-advance Inv-loop μ-loop) → let at-loop = to-loop (to-tokens c) in let b = to-start at-loop in inputLists (drop (at-loop .loop .at) (b .args .inputs .now))
     ≡ setOf (to-tokens c .tokens-in .result) ∷ inputLists (drop (at-loop .loop .at + length (to-tokens c .before .part .result .now)) (b .args .inputs .now))
@@ -118,7 +118,7 @@ after-round c =
     let at-loop = to-loop at-tokens in
     let b = to-start at-loop in
     let s = b .args .score .now in
-    state-round _ (after-lawful (decode s) _ 1024 (b .pre .1 .0 .lawful .most-agents) (inside s (b .pre .1 .0) (stateIn (at-loop .loop .stands)) (at-loop .loop .inv .1 .0) (at-tokens .tokens-in .result) (told-known at-tokens)))
+    state-round _ (after-lawful (decode s) _ 1024 (b .pre .0 .playable .lawful .most-agents) (inside s (b .pre .0 .playable) (stateIn (at-loop .loop .stands)) (at-loop .loop .inv .1 .0) (at-tokens .tokens-in .result) (told-known at-tokens)))
 
 goes-on-requires : tie.Need-goes-on-requires Inv-loop μ-loop
 goes-on-requires c κs = search needs
@@ -200,7 +200,7 @@ same-length c = search needs
 same-length-2 : tie.Need-same-length-2 Inv-loop μ-loop
 same-length-2 c =
     let at-advance = to-advance (c .before) in
-    ap length (at-advance .advance .ensures .1 ∙ sym (to-start (to-loop (to-tokens at-advance)) .pre .1 .1 .1 .1))
+    ap length (at-advance .advance .ensures .1 ∙ sym (to-start (to-loop (to-tokens at-advance)) .pre .1 .1 .1))
 
 returns : tie.Need-returns Inv-loop μ-loop
 returns c =
@@ -223,7 +223,7 @@ same-length-3 : tie.Need-same-length-3 Inv-loop μ-loop
 same-length-3 c = search needs
 
 same-length-4 : tie.Need-same-length-4 Inv-loop μ-loop
-same-length-4 c = ap length (c .before .loop .inv .1 .1 .1 .1 .1 .1 ∙ sym (to-start (c .before) .pre .1 .1 .1 .1))
+same-length-4 c = ap length (c .before .loop .inv .1 .1 .1 .1 .1 .1 ∙ sym (to-start (c .before) .pre .1 .1 .1))
 
 returns-2 : tie.Need-returns-2 Inv-loop μ-loop
 returns-2 c =

@@ -19,22 +19,29 @@ use Rattle.settings.proofs.widen.Reads as widen-reads
 use Rattle.settings.proofs.+try_settings.{statement}
 use Rattle.settings.proofs.+try_settings.Tie.{close}
 
-abbrev μ-try-settings : Measures 4 try-settings-kinds.ps ℕ
+abbrev μ-try-settings : Measures 5 try-settings-kinds.ps ℕ
 μ-try-settings κs a = length (a .1 .1 .1 .1 .1 .0 .now)
 
 -- what it is given at a measure, and what a call of it asks below that
 module _ (t : ℕ) where
-  abbrev at : In 4 try-settings-kinds.ps
-  at = and 4 try-settings-kinds.ps (is 4 try-settings-kinds.ps μ-try-settings t) try-settings.Pre
+  abbrev at : In 5 try-settings-kinds.ps
+  at = and 5 try-settings-kinds.ps (is 5 try-settings-kinds.ps μ-try-settings t) try-settings.Pre
 
-  abbrev below : In 4 try-settings-kinds.ps
-  below = and 4 try-settings-kinds.ps (falls 4 try-settings-kinds.ps _<_ μ-try-settings t) try-settings.Pre
+  abbrev below : In 5 try-settings-kinds.ps
+  below = and 5 try-settings-kinds.ps (falls 5 try-settings-kinds.ps _<_ μ-try-settings t) try-settings.Pre
 
   abbrev calls : lts.Claims
   calls = (try-setting-reads.Asked, try-setting-reads.Learnt, widen-reads.Asked, widen-reads.Learnt, below, try-settings.Post)
 
+  -- Stations of the walk, each from a later place.
+  abbrev to-start : lts.After-widen calls at try-settings.Post → lts.Start calls at try-settings.Post
+  to-start c = c .before .before .before .before .before .before
+
+  abbrev to-widen : lts.After-try-settings calls at try-settings.Post → lts.After-widen calls at try-settings.Post
+  to-widen c = c .before .before .before .before
+
   try-setting-requires : lts.Need-try-setting-requires calls at try-settings.Post
-  try-setting-requires c κs = let p = c .before .before .before .before .pre .1 in (p .0, (p .1 .0, p .1 .1 .0))
+  try-setting-requires c κs = let p = c .before .before .before .before .pre .1 in (p .0, p .1 .0)
 
   returns : lts.Need-returns calls at try-settings.Post
   returns c =
@@ -79,48 +86,48 @@ module _ (t : ℕ) where
 
   try-settings-requires : lts.Need-try-settings-requires calls at try-settings.Post
   try-settings-requires c κs =
-      let b = c .before .before .before .before .before .before .before .before .before in
+      let b = to-start (c .before .before .before) in
       let p = b .pre .1 in
       let left = b .args .left .now in
       let fewer = others-fewer left (some (c .before .before .before .before .before)) in
-      (omega (arith, b .pre .0, fewer), (p .0, (p .1 .0, (p .1 .1 .0, (length-set (b .args .chosen .now) _ true ∙ p .1 .1 .1 .0, omega (arith, p .1 .1 .1 .1, fewer))))))
+      (omega (arith, b .pre .0, fewer), (p .0, (p .1 .0, (length-set (b .args .chosen .now) _ true ∙ p .1 .1 .0, omega (arith, p .1 .1 .1, fewer)))))
 
   element-write-chosen-2 : lts.Need-element-write-chosen-2 calls at try-settings.Post
   element-write-chosen-2 c = known (c .before .before .before .before)
 
   -- the switches chosen are again those that were
   chosen-back : (c : lts.After-try-settings calls at try-settings.Post) →
-      let a = c .before .before .before .before .before .before .before .before .before .before .args in
-      let token = c .before .before .before .before .widen .result in
+      let a = to-start (to-widen c) .args in
+      let token = to-widen c .widen .result in
       set (c .try-settings .last .1 .1 .1 .1 .0) token (getD (a .chosen .now) token false) ≡ a .chosen .now
-  chosen-back c = released (c .before .before .before .before .before .before .before .before .before .before .args .chosen .now) _ (c .before .before .before .before .widen .result) (c .try-settings .ensures .1)
+  chosen-back c = released (to-start (to-widen c) .args .chosen .now) _ (to-widen c .widen .result) (c .try-settings .ensures .1)
 
   try-settings-requires-2 : lts.Need-try-settings-requires-2 calls at try-settings.Post
   try-settings-requires-2 c κs =
-      let b = c .before .before .before .before .before .before .before .before .before .before .before in
+      let b = to-start (to-widen (c .before)) in
       let p = b .pre .1 in
       let left = b .args .left .now in
       let fewer = others-fewer left (some (c .before .before .before .before .before .before .before)) in
-      (omega (arith, b .pre .0, fewer), (p .0, (p .1 .0, (p .1 .1 .0, (ap length (chosen-back (c .before)) ∙ p .1 .1 .1 .0, omega (arith, p .1 .1 .1 .1, fewer))))))
+      (omega (arith, b .pre .0, fewer), (p .0, (p .1 .0, (ap length (chosen-back (c .before)) ∙ p .1 .1 .0, omega (arith, p .1 .1 .1, fewer)))))
 
   both : (c : lts.After-try-settings2 calls at try-settings.Post) →
-      let a = c .before .before .before .before .before .before .before .before .before .before .before .before .args in
+      let a = to-start (to-widen (c .before .before)) .args in
       plus (c .before .before .try-settings .result) (c .try-settings2 .result) ≡ counted (decode (a .score .now)) (stateFrom (a .running) (a .awake .now)) (with (a .chosen .now)) (a .k) (a .left .now)
   both c =
-      let w = c .before .before .before .before .before .before in
-      let b = w .before .before .before .before .before .before in
+      let w = to-widen (c .before .before) in
+      let b = to-start w in
       let sc = decode (b .args .score .now) in
       let st = stateFrom (b .args .running) (b .args .awake .now) in
       let left = b .args .left .now in
       let back : c .try-settings2 .result ≡ counted sc st (with (b .args .chosen .now)) (b .args .k) (others left) = c .try-settings2 .ensures .0 ∙ ap (λ l. counted sc st (with l) (b .args .k) (others left)) (chosen-back (c .before .before)) in
       ap₂ plus (c .before .before .try-settings .ensures .0) back
-      ∙ tried-both sc st (b .args .chosen .now) (b .args .k) (w .widen .result) left (w .before .before .before .if1 .left) (some (w .before .before)) (w .widen .ensures) (omega (arith, known w, b .pre .1 .1 .1 .1 .0))
+      ∙ tried-both sc st (b .args .chosen .now) (b .args .k) (w .widen .result) left (w .before .before .before .if1 .left) (some (w .before .before)) (w .widen .ensures) (omega (arith, known w, b .pre .1 .1 .1 .0))
 
   few : (c : lts.After-try-settings2 calls at try-settings.Post) → let p = plus (c .before .before .try-settings .result) (c .try-settings2 .result) in (p .quiet ≤ 12870) × (p .clashed ≤ 12870) × (p .aborted ≤ 12870)
   few c =
-      let b = c .before .before .before .before .before .before .before .before .before .before .before .before in
+      let b = to-start (to-widen (c .before .before)) in
       subst⁻¹ (λ p. (p .quiet ≤ 12870) × (p .clashed ≤ 12870) × (p .aborted ≤ 12870)) (both c)
-      (tried-few (decode (b .args .score .now)) (stateFrom (b .args .running) (b .args .awake .now)) (b .args .chosen .now) (b .args .k) (b .args .left .now) (b .pre .1 .1 .1 .1 .1))
+      (tried-few (decode (b .args .score .now)) (stateFrom (b .args .running) (b .args .awake .now)) (b .args .chosen .now) (b .args .k) (b .args .left .now) (b .pre .1 .1 .1 .1))
 
   add-t15 : lts.Need-add-t15 calls at try-settings.Post
   add-t15 c = omega (arith, few (c .before .before) .0)

@@ -33,7 +33,7 @@ play-requires : tie.Need-play-requires
 play-requires c κs = search needs
 
 same-length : tie.Need-same-length
-same-length c = ap length (c .before .before .play .ensures .1 ∙ sym (c .before .before .before .before .before .before .before .before .pre .1 .1))
+same-length c = ap length (c .before .before .play .ensures .1 ∙ sym (c .before .before .before .before .before .before .before .before .pre .1))
 
 returns : tie.Need-returns
 returns c =
@@ -44,7 +44,7 @@ returns c =
 returns-2 : tie.Need-returns-2
 returns-2 c =
     let b = c .before .before .before .before in
-    (none-outcome ∙ sym (ap outcomeOf (aborted-answer (decode (b .args .score .now)) (b .args .standing) (setOf (b .args .inputs)) (c .if1 .left))), b .pre .1 .1)
+    (none-outcome ∙ sym (ap outcomeOf (aborted-answer (decode (b .args .score .now)) (b .args .standing) (setOf (b .args .inputs)) (c .if1 .left))), b .pre .1)
 
 pub answer-from-spec : {M : Type 1} → statement M
 answer-from-spec = tie.close (tie.spec play-requires same-length returns returns-2)
