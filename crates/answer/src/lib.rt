@@ -1,3 +1,4 @@
+// An answer as a number: what each call found, packed, and what a caller reads off it.
 ghost use mathlib.Core.Path.{_≡_};
 ghost use mathlib.Core.Bool.{false, true};
 ghost use Prim.Native.Nat.{_<_, _≤_, _^_};

@@ -1,3 +1,4 @@
+// Bits as flags: spread from a word, gathered to one, looked at from a number on; a word put into bytes.
 ghost use mathlib.Core.Path.{_≡_};
 ghost use mathlib.Core.Bool.{false, not};
 ghost use mathlib.Core.List.{[], _∷_, _++_};

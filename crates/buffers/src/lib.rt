@@ -1,3 +1,4 @@
+// The buffers of an instant call: their lengths, and an answer handed over to them.
 ghost use mathlib.Core.Path.{_≡_};
 ghost use mathlib.Core.Bool.{cond, _||_, not};
 ghost use lib.Dec.{eqb};

@@ -1,0 +1,1 @@
+// The marked cases: one table and one proof over the definitions of all crates above; no code.

@@ -1,3 +1,4 @@
+// Row 7: the lowest procedure on a circle of unguarded calls.
 ghost use mathlib.Core.Path.{_≡_};
 ghost use Prim.Native.Nat.{_≤_};
 ghost use lib.ListN.{length};

@@ -1,3 +1,4 @@
+// The count of settings over lent buffers, numbers 1 to 9 and 17.
 ghost use Rattle.counting.specs.SettingsCall.{SettingsCall};
 use settings::Counts;
 use verdicts::Verdict;

@@ -1,3 +1,4 @@
+// Drafts, scores in which an agent may be a watch: their orders, chains and journals; definitions and theorems, no bytes.
 use tcc::Agent;
 
 // An agent of a draft, as it is written there.

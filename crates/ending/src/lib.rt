@@ -1,3 +1,4 @@
+// What an instant comes to, read off its marks: whether it aborts, the agents reduced, in the scratch, and those awake next.
 ghost use mathlib.Core.Path.{_≡_};
 ghost use Prim.Native.Nat.{_*_, _<_};
 ghost use lib.ListN.{length};

@@ -1,3 +1,4 @@
+// The form of input lists and journals, numbers 12 and 13.
 ghost use mathlib.Core.Path.{_≡_};
 ghost use mathlib.Core.Bool.{cond, _&&_};
 ghost use lib.Dec.{ltb};

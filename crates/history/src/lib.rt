@@ -1,3 +1,4 @@
+// What a run and a journal check share: their replies, the start state, an instant from where a score stands.
 ghost use mathlib.Core.Path.{_≡_};
 ghost use mathlib.Core.Bool.{false};
 ghost use Prim.Native.Nat.{ℕ, _≤_};

@@ -1,3 +1,4 @@
+// One instant over lent buffers, numbers 1 to 11 and 18.
 ghost use mathlib.Core.Path.{_≡_};
 ghost use lib.ListN.{length};
 ghost use Rattle.tcc.specs.Instant.{answer};

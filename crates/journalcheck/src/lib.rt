@@ -1,3 +1,4 @@
+// The journal check over lent buffers, numbers 1 to 8 and 11 to 14.
 ghost use mathlib.Core.Path.{_≡_};
 ghost use mathlib.Core.Bool.{false, true, not};
 ghost use Prim.Native.Nat.{_<_};

@@ -1,3 +1,4 @@
+// Token maps as bytes, read to flags and written from them.
 ghost use mathlib.Core.Path.{_≡_};
 ghost use mathlib.Core.Bool.{false};
 ghost use Prim.Native.Nat.{ℕ, _≤_};

@@ -1,3 +1,4 @@
+// One pass of an instant over its agents, in which each live one has its effect on the marks.
 ghost use mathlib.Core.Path.{_≡_};
 ghost use lib.ListN.{length};
 ghost use Rattle.format.specs.Decode.{decode};

@@ -1,3 +1,4 @@
+// The instants in an input list or journal, as parts of its own bytes, and their tokens.
 ghost use mathlib.Core.Path.{_≡_};
 ghost use Prim.Native.Nat.{_*_};
 ghost use Rattle.words.specs.Word.{words};

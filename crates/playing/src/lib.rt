@@ -1,3 +1,4 @@
+// A run from the start state, and its number.
 ghost use mathlib.Core.Path.{_≡_};
 ghost use lib.ListN.{length};
 ghost use Rattle.format.specs.Decode.{decode};

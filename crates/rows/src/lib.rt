@@ -1,3 +1,4 @@
+// A pair of the translation as five numbers: its set asked and added to, pairs compared.
 ghost use mathlib.Core.Path.{_≡_};
 ghost use mathlib.Core.Bool.{true};
 ghost use Prim.Native.Nat.{ℕ, _^_, _<_, _≤_};

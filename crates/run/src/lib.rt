@@ -1,3 +1,4 @@
+// The run over lent buffers, numbers 1 to 9, 12 and 13, then its instants.
 ghost use mathlib.Core.Path.{_≡_};
 ghost use mathlib.Core.Bool.{false, cond, not, _||_};
 ghost use lib.Dec.{eqb};

@@ -1,3 +1,4 @@
+// The instants of a run, played and written one after the other; where it stops, numbers 11, 18 and 15.
 ghost use mathlib.Core.Path.{_≡_};
 ghost use mathlib.Core.Bool.{false};
 ghost use mathlib.Core.List.{List};

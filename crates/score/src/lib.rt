@@ -1,3 +1,4 @@
+// The functions exported to C.
 ghost use Rattle.instant.specs.InstantCall.{lent};
 ghost use Rattle.run.specs.RunCall.{lent as lentToRun};
 ghost use Rattle.score.specs.CheckCall.{CheckCall};

@@ -1,3 +1,4 @@
+// The score check, rows 1 to 7 in their order; an accepted score is lawful.
 ghost use mathlib.Core.Path.{_≡_};
 ghost use Rattle.scorefile.specs.Check.{verdict};
 use verdicts::Verdict;

@@ -1,3 +1,4 @@
+// The settings of switches, tried from one state: how many end with each status.
 ghost use mathlib.Core.Path.{_≡_};
 ghost use mathlib.Core.List.{[], _∷_, _++_, map};
 ghost use Prim.Native.Nat.{_≤_};

@@ -1,3 +1,4 @@
+// A list of switches, number 17.
 ghost use mathlib.Core.Path.{_≡_};
 ghost use Rattle.laws.specs.Sets.{has};
 ghost use Rattle.switches.specs.Switches.{switchFault};

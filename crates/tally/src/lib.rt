@@ -1,3 +1,4 @@
+// The bits of the agents reduced, in the scratch: counted and cleared.
 ghost use mathlib.Core.Path.{_≡_};
 ghost use Prim.Native.Nat.{ℕ, _≤_};
 ghost use lib.ListN.{length, getD};

@@ -1,3 +1,4 @@
+// What a reference of a draft leads to, through watches, and what an agent refers to.
 ghost use mathlib.Core.Path.{_≡_};
 ghost use Prim.Native.Nat.{_<_};
 ghost use Rattle.format.specs.Decode.{sizes};

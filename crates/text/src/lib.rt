@@ -1,3 +1,4 @@
+// What the runner prints, as text: which words of a journal, and the line of a word.
 ghost use mathlib.Core.Path.{_≡_};
 ghost use Prim.Native.Nat.{_<_};
 ghost use lib.ListN.{length};

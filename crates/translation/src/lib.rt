@@ -1,3 +1,4 @@
+// The plain score of a draft: the pairs that it is made of, and what it is; definitions and theorems, no bytes.
 use verdicts::Verdict;
 
 // What a translation comes to.

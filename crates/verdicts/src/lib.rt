@@ -1,3 +1,4 @@
+// What the score check finds: verdicts, their numbers and values, the first of two.
 ghost use mathlib.Core.Path.{_≡_};
 ghost use Rattle.verdicts.specs.Verdicts.{numberOf, valueOf};
 

@@ -1,3 +1,4 @@
+// 32-bit little-endian words in a byte slice, fields of a word by shift and mask, token maps.
 ghost use mathlib.Core.Path.{_≡_};
 ghost use Prim.Native.Nat.{_+_, _*_, _/_, _<_};
 ghost use lib.ListN.{length};

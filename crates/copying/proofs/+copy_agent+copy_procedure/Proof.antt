@@ -92,6 +92,13 @@ module _ (t : ℕ) where
     copy-agent.Post,
   )
 
+  -- Stations of the walk, each from a later place.
+  abbrev to-start : copy-agent-lts.After-enter agent-calls agent-at copy-agent.Post → copy-agent-lts.Start agent-calls agent-at copy-agent.Post
+  to-start c = c .before .before .before .before
+
+  abbrev to-enter : copy-agent-lts.After-references-of agent-calls agent-at copy-agent.Post → copy-agent-lts.After-enter agent-calls agent-at copy-agent.Post
+  to-enter c = c .before .before .before .before .before
+
   abbrev agent-draft : copy-agent-lts.Start agent-calls agent-at copy-agent.Post → Draft
   agent-draft b = decodeDraft (b .args .draft .now)
 
@@ -99,32 +106,32 @@ module _ (t : ℕ) where
   agent-key b = target (agent-draft b) (b .args .reference) (setIn (rowValue (b .args .under)))
 
   agent-entering : (c : copy-agent-lts.After-enter agent-calls agent-at copy-agent.Post) →
-      Entering (agent-draft (c .before .before .before .before)) (agent-key (c .before .before .before .before)) (rowValue (c .before .before .target .result)) (c .before .before .before .before .args .count) (c .before .before .before .before .args .table .now) (c .enter .result) (c .enter .last .0)
+      Entering (agent-draft (to-start c)) (agent-key (to-start c)) (rowValue (c .before .before .target .result)) (to-start c .args .count) (to-start c .args .table .now) (c .enter .result) (c .enter .last .0)
   agent-entering c =
-      let b = c .before .before .before .before in
+      let b = to-start c in
       record { ready = ready-given _ _ _ (b .pre .1 .1 .1 .1 .1); led = b .pre .1 .1 .1 .1 .0; is = c .before .before .target .ensures; entered = c .enter .ensures }
 
-  agent-known : (c : copy-agent-lts.After-enter agent-calls agent-at copy-agent.Post) → KnownAgent (agent-draft (c .before .before .before .before)) (rowValue (c .before .before .target .result))
+  agent-known : (c : copy-agent-lts.After-enter agent-calls agent-at copy-agent.Post) → KnownAgent (agent-draft (to-start c)) (rowValue (c .before .before .target .result))
   agent-known c =
-      let b = c .before .before .before .before in
+      let b = to-start c in
       subst⁻¹ (KnownAgent (agent-draft b)) (c .before .before .target .ensures) (target-agent (b .pre .1 .0) (b .args .reference) _ (b .pre .1 .1 .1 .0) (set-bound (rowValue (b .args .under))))
 
   agent-reading : (c : copy-agent-lts.After-references-of agent-calls agent-at copy-agent.Post) →
-      Reading (c .before .before .before .before .before .before .before .before .before .args .draft .now) (agent-key (c .before .before .before .before .before .before .before .before .before)) (rowValue (c .before .before .before .before .before .before .before .target .result)) (c .before .before .before .before .before .before .before .before .before .args .count) (c .before .before .before .before .before .before .before .before .before .args .table .now) (c .before .before .before .before .before .enter .result) (c .before .before .before .before .before .enter .last .0) (c .references-of .result)
+      Reading (to-start (to-enter c) .args .draft .now) (agent-key (to-start (to-enter c))) (rowValue (c .before .before .before .before .before .before .before .target .result)) (to-start (to-enter c) .args .count) (to-start (to-enter c) .args .table .now) (to-enter c .enter .result) (to-enter c .enter .last .0) (c .references-of .result)
   agent-reading c =
       record {
-        ok = c .before .before .before .before .before .before .before .before .before .pre .1 .0;
-        entering = agent-entering (c .before .before .before .before .before);
+        ok = to-start (to-enter c) .pre .1 .0;
+        entering = agent-entering (to-enter c);
         room = c .before .before .before .if2 .left;
-        agent = agent-known (c .before .before .before .before .before);
-        is = c .references-of .ensures ∙ ap referencesOf (c .before .written-at .ensures ∙ ap (writtenAt (agent-draft (c .before .before .before .before .before .before .before .before .before))) (c .before .before .number-of .ensures));
+        agent = agent-known (to-enter c);
+        is = c .references-of .ensures ∙ ap referencesOf (c .before .written-at .ensures ∙ ap (writtenAt (agent-draft (to-start (to-enter c)))) (c .before .before .number-of .ensures));
       }
 
-  agent-ready : (c : copy-agent-lts.After-references-of agent-calls agent-at copy-agent.Post) → Ready (agent-draft (c .before .before .before .before .before .before .before .before .before)) (c .before .before .before .before .before .enter .result) (c .before .before .before .before .before .enter .last .0)
-  agent-ready c = entered-ready (agent-entering (c .before .before .before .before .before)) (c .before .before .before .if2 .left)
+  agent-ready : (c : copy-agent-lts.After-references-of agent-calls agent-at copy-agent.Post) → Ready (agent-draft (to-start (to-enter c))) (to-enter c .enter .result) (to-enter c .enter .last .0)
+  agent-ready c = entered-ready (agent-entering (to-enter c)) (c .before .before .before .if2 .left)
 
-  agent-falls : (c : copy-agent-lts.After-references-of agent-calls agent-at copy-agent.Post) {n : ℕ} {table : List (List ℕ)} → c .before .before .before .before .before .enter .result ≤ n → Ready (agent-draft (c .before .before .before .before .before .before .before .before .before)) n table → 1089 - n < t
-  agent-falls c more ready = omega (arith, c .before .before .before .before .before .before .before .before .before .pre .0, entered-higher (agent-entering (c .before .before .before .before .before)) (c .before .before .before .if2 .left) (c .before .before .before .before .if1 .left), ready .few)
+  agent-falls : (c : copy-agent-lts.After-references-of agent-calls agent-at copy-agent.Post) {n : ℕ} {table : List (List ℕ)} → to-enter c .enter .result ≤ n → Ready (agent-draft (to-start (to-enter c))) n table → 1089 - n < t
+  agent-falls c more ready = omega (arith, to-start (to-enter c) .pre .0, entered-higher (agent-entering (to-enter c)) (c .before .before .before .if2 .left) (c .before .before .before .before .if1 .left), ready .few)
 
   agent-target-requires : copy-agent-lts.Need-target-requires agent-calls agent-at copy-agent.Post
   agent-target-requires c κs = let b = c .before in (b .pre .1 .0, b .pre .1 .1 .1 .0)
@@ -160,7 +167,7 @@ module _ (t : ℕ) where
   agent-copy-agent-requires c κs =
       let a = c .before .before .before .before in
       let e = c .before .before .body .given .1 in
-      let b = a .before .before .before .before .before .before .before .before .before in
+      let b = to-start (to-enter a) in
       (agent-falls a (omega arith) (agent-ready a), (b .pre .1 .0, (b .pre .1 .1 .0, (reading-below (agent-reading a) e, (reading-led (agent-reading a) e _ (List·Memᴰ·head refl), ready-asked (agent-ready a))))))
 
   agent-enum-known-first : copy-agent-lts.Need-enum-known-first agent-calls agent-at copy-agent.Post
@@ -170,7 +177,7 @@ module _ (t : ℕ) where
   agent-copy-agent-requires-2 c κs =
       let a = c .before .before .before .before in
       let e = c .before .before .first .given .1 in
-      let b = a .before .before .before .before .before .before .before .before .before in
+      let b = to-start (to-enter a) in
       (agent-falls a (omega arith) (agent-ready a), (b .pre .1 .0, (b .pre .1 .1 .0, (reading-below (agent-reading a) e .0, (reading-led (agent-reading a) e _ (List·Memᴰ·head refl), ready-asked (agent-ready a))))))
 
   agent-returns-3 : copy-agent-lts.Need-returns-3 agent-calls agent-at copy-agent.Post
@@ -182,7 +189,7 @@ module _ (t : ℕ) where
       let e = c .before .before .before .before .before .first .given .1 in
       let half = c .before .before .copy-agent2 .ensures in
       let ready = copied-ready (agent-ready a) half (c .before .if3 .left) in
-      let b = a .before .before .before .before .before .before .before .before .before in
+      let b = to-start (to-enter a) in
       (agent-falls a (half .more) ready, (b .pre .1 .0, (b .pre .1 .1 .0, (reading-below (agent-reading a) e .1, (reading-led (agent-reading a) e _ (List·Memᴰ·tail (List·Memᴰ·head refl)), ready-asked ready)))))
 
   agent-enum-known-p : copy-agent-lts.Need-enum-known-p agent-calls agent-at copy-agent.Post
@@ -192,7 +199,7 @@ module _ (t : ℕ) where
   agent-copy-procedure-requires c κs =
       let a = c .before .before .before .before in
       let e = c .before .before .p .given .1 in
-      let b = a .before .before .before .before .before .before .before .before .before in
+      let b = to-start (to-enter a) in
       (agent-falls a (omega arith) (agent-ready a), (b .pre .1 .0, (b .pre .1 .1 .0, (reading-below (agent-reading a) e, (reading-led (agent-reading a) e _ (List·Memᴰ·head refl), ready-asked (agent-ready a))))))
 
   agent-returns-4 : copy-agent-lts.Need-returns-4 agent-calls agent-at copy-agent.Post

@@ -17,6 +17,10 @@ use Rattle.gathering.proofs.Stages.{accepted-translatable, pairs-gather
 use Rattle.gathering.proofs.gather.Statement.{statement}
 use Rattle.gathering.proofs.gather.Tie as tie
 
+-- Stations of the walk, each from a later place.
+abbrev to-start : tie.After-copy-draft → tie.Start
+to-start c = c .before .before .before .before .before
+
 translatable : (c : tie.After-shared-slice-known) → Translatable (c .before .args .draft .now)
 translatable c = accepted-translatable (c .before .args .draft .now) (λ i. omega (arith, c .shared-slice-known .given i)) (c .before .pre .0)
 
@@ -25,11 +29,12 @@ head-is c = head-read (c .before .before .before .args .draft .now) (c .before .
 
 parted : (c : tie.After-place) →
     let pairs = c .before .before .before .before .copy-draft in
-    let draft = c .before .before .before .before .before .before .before .before .before .args .draft .now in
+    let draft = to-start (c .before .before .before .before) .args .draft .now in
     Parted (decodeDraft draft) (pairs .last .1 .1 .0) (pairs .result) (c .place .result)
 parted c =
-    let pairs = c .before .before .before .before .copy-draft in
-    table-parted (omega (arith, pairs .ensures .long, c .before .before .before .if1 .left)) (pairs .ensures .exact (c .before .before .before .if1 .left))
+    let at-pairs = c .before .before .before in
+    let pairs = at-pairs .before .copy-draft in
+    table-parted (omega (arith, pairs .ensures .long, at-pairs .if1 .left)) (pairs .ensures .exact (at-pairs .if1 .left))
     (subst (λ k. Placed (keys (pairs .result) (pairs .last .1 .1 .0)) k (c .place .result)) (c .before .row-of .ensures) (c .place .ensures))
 
 word-at-requires : tie.Need-word-at-requires
@@ -69,7 +74,7 @@ gather-sets-requires c κs =
     let e = c .before .before in
     let p = e .before .before in
     let pairs = p .before .before .before .before in
-    let b = pairs .before .before .before .before .before in (
+    let b = to-start pairs in (
       pairs-gathered (b .pre .0) (head-is (pairs .before .before)) (pairs .copy-draft .ensures) (p .before .before .before .if1 .left) (parted p) (omega (arith, e .before .if2 .left)) (omega (arith, e .if3 .left)),
       b .pre .1 .1,
     )

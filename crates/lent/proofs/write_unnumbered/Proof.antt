@@ -15,11 +15,18 @@ Inv-loop state₀ first agents awake k₀ state k = (k ≤ 32) × (unnumberedByt
 abbrev μ-loop : tie.MeasureT-loop
 μ-loop state₀ first agents awake k₀ state k = 32 - k
 
+-- Stations of the walk, each from a later place.
+abbrev to-start : tie.After-slice-known2 Inv-loop μ-loop → tie.Start Inv-loop μ-loop
+to-start c = c .before .before .before .before .before
+
+abbrev to-loop : tie.After-slice-known3 Inv-loop μ-loop → tie.At-loop Inv-loop μ-loop
+to-loop c = c .before .before .before .before .before .before .before
+
 put-word-requires : tie.Need-put-word-requires Inv-loop μ-loop
 put-word-requires c κs = omega arith
 
 loop-holds : tie.Need-loop-holds Inv-loop μ-loop
-loop-holds c = let b = c .before .before .before .before .before in
+loop-holds c = let b = to-start c in
     let t = c .before .before .put-word in
     (search needs, omega (arith, t .kept .0, b .pre .0), refl, search needs, state-first (b .args .first) (b .args .t4) (b .args .state .now) (t .last .0) (t .ensures))
 
@@ -30,7 +37,7 @@ mul-gather : tie.Need-mul-gather Inv-loop μ-loop
 mul-gather c = search needs
 
 gather-requires : tie.Need-gather-requires Inv-loop μ-loop
-gather-requires c κs = (search needs, (omega arith, c .before .before .before .before .before .before .before .before .pre .1))
+gather-requires c κs = (search needs, (omega arith, to-start (c .before .before .before) .pre .1))
 
 add-put-word : tie.Need-add-put-word Inv-loop μ-loop
 add-put-word c = search needs
@@ -45,8 +52,10 @@ loop-less : tie.Need-loop-less Inv-loop μ-loop
 loop-less c = search needs
 
 loop-again : tie.Need-loop-again Inv-loop μ-loop
-loop-again c = let a = c .before .before .before .before .before .before .before .before .before .before .before .before .before .args in
-    let b = c .before .before .before .before .before .before .before .loop in
+loop-again c =
+    let at-loop = to-loop c in
+    let a = to-start (at-loop .before) .args in
+    let b = at-loop .loop in
     let t = c .before .before .put-word2 in
     let h = b .inv in (
       omega arith,
@@ -60,9 +69,11 @@ same-length : tie.Need-same-length Inv-loop μ-loop
 same-length c = c .before .loop .inv .2 ∙ c .before .before .before .before .put-word .kept .0
 
 returns : tie.Need-returns Inv-loop μ-loop
-returns c = let a = c .before .before .before .before .before .before .before .args in
+returns c =
+    let at-loop = c .before in
+    let a = to-start (at-loop .before) .args in
     let b = c .before .loop in
-    let t = c .before .before .before .before .put-word in
+    let t = at-loop .before .before .before .put-word in
     let e : b .k ≡ 32 = omega arith in
     state-all (a .first) (a .t4) (a .state .now) (t .last .0) (b .state) (t .ensures) (b .inv .4 ∙ ap (λ k. stateWritten (a .first) (a .t4) k (t .last .0)) e)
 

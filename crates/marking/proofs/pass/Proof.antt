@@ -22,38 +22,47 @@ Inv-loop s prepared live₀ held₀ head grew₀ i₀ live held grew i = (i ≤ 
 abbrev μ-loop : tie.MeasureT-loop
 μ-loop s prepared live₀ held₀ head grew₀ i₀ live held grew i = i
 
+-- Stations of the walk, each from a later place.
+abbrev to-start : tie.After-sizes Inv-loop μ-loop → tie.Start Inv-loop μ-loop
+to-start c = c .before .before
+
+abbrev to-loop : tie.After-agent-at Inv-loop μ-loop → tie.At-loop Inv-loop μ-loop
+to-loop c = c .before .before .before .before
+
 sizes-requires : tie.Need-sizes-requires Inv-loop μ-loop
 sizes-requires c κs = c .before .pre .0 .long
 
-head-is : (c : tie.After-sizes Inv-loop μ-loop) → c .sizes .result ≡ sizes (c .before .before .args .s .now)
-head-is c = c .sizes .ensures ∙ c .before .before .pre .0 .sized
+head-is : (c : tie.After-sizes Inv-loop μ-loop) → c .sizes .result ≡ sizes (to-start c .args .s .now)
+head-is c = c .sizes .ensures ∙ to-start c .pre .0 .sized
 
 loop-holds : tie.Need-loop-holds Inv-loop μ-loop
 loop-holds c =
-    let b = c .before .before in
+    let b = to-start c in
     (omega arith, passed-none (decode (b .args .s .now)) (b .args .live .now) (b .args .held .now) (c .sizes .result .agents) (b .pre .1 .0) (b .pre .1 .1) (omega (arith, agents-all (b .pre .0 .playable) (head-is c))))
 
 sub-i : tie.Need-sub-i Inv-loop μ-loop
 sub-i c = search needs
 
 element-copy-out-if1 : tie.Need-element-copy-out-if1 Inv-loop μ-loop
-element-copy-out-if1 c = let h = c .before .before in
-    let b = h .before .before in omega (arith, agents-few (b .pre .0 .playable) (head-is h))
+element-copy-out-if1 c =
+    let h = c .before .before in
+    omega (arith, agents-few (to-start h .pre .0 .playable) (head-is h))
 
 agent-at-requires : tie.Need-agent-at-requires Inv-loop μ-loop
 agent-at-requires c κs =
     let h = c .before .before .before .before in
-    let b = h .before .before in
+    let b = to-start h in
     (omega (arith, b .pre .0 .playable .whole, ap (λ h. h .agents) (head-is h)), omega (arith, ap (λ h. h .agents) (head-is h)))
 
-coming : (c : tie.After-agent-at Inv-loop μ-loop) →
-    Coming (decode (c .before .before .before .before .before .before .before .args .s .now)) (c .before .before .before .before .loop .i - 1)
-    (c .before .before .before .before .before .before .before .args .live .now) (c .before .before .before .before .before .before .before .args .held .now)
-    (c .before .before .before .before .loop .live) (c .before .before .before .before .loop .held) (c .before .before .before .before .loop .grew)
+coming : (c : tie.After-agent-at Inv-loop μ-loop) → let b = to-start (to-loop c .before) in
+    Coming (decode (b .args .s .now)) (to-loop c .loop .i - 1)
+    (b .args .live .now) (b .args .held .now)
+    (to-loop c .loop .live) (to-loop c .loop .held) (to-loop c .loop .grew)
 coming c =
-    let h = c .before .before .before .before .before in
-    let b = h .before .before in
-    let l = c .before .before .before .before .loop in
+    let at-loop = to-loop c in
+    let h = at-loop .before in
+    let b = to-start h in
+    let l = at-loop .loop in
     let next : l .i ≡ l .i - 1 + 1 = omega arith in
     record {
       lawful = b .pre .0 .playable .lawful;
@@ -68,14 +77,14 @@ enum-known-token c = search needs
 element-copy-out-if2 : tie.Need-element-copy-out-if2 Inv-loop μ-loop
 element-copy-out-if2 c =
     let a = c .before .before .before in
-    let b = a .before .before .before .before .before .before .before in
-    token-few (b .pre .0 .playable) (a .before .before .before .before .loop .i - 1) (sym (a .agent-at .ensures) ∙ c .before .token .given .1) (List·Memᴰ·head refl)
+    let b = to-start (to-loop a .before) in
+    token-few (b .pre .0 .playable) (to-loop a .loop .i - 1) (sym (a .agent-at .ensures) ∙ c .before .token .given .1) (List·Memᴰ·head refl)
 
 element-write-held : tie.Need-element-write-held Inv-loop μ-loop
 element-write-held c =
     let a = c .before .before .before .before .before in
-    let b = a .before .before .before .before .before .before .before in
-    omega (arith, token-few (b .pre .0 .playable) (a .before .before .before .before .loop .i - 1) (sym (a .agent-at .ensures) ∙ c .before .before .before .token .given .1) (List·Memᴰ·head refl))
+    let b = to-start (to-loop a .before) in
+    omega (arith, token-few (b .pre .0 .playable) (to-loop a .loop .i - 1) (sym (a .agent-at .ensures) ∙ c .before .before .before .token .given .1) (List·Memᴰ·head refl))
 
 loop-less : tie.Need-loop-less Inv-loop μ-loop
 loop-less c = search needs
@@ -117,8 +126,8 @@ enum-known-token-2 c = search needs
 element-copy-out-if3 : tie.Need-element-copy-out-if3 Inv-loop μ-loop
 element-copy-out-if3 c =
     let a = c .before .before .before in
-    let b = a .before .before .before .before .before .before .before in
-    token-few (b .pre .0 .playable) (a .before .before .before .before .loop .i - 1) (sym (a .agent-at .ensures) ∙ c .before .token2 .given .1) (List·Memᴰ·head refl)
+    let b = to-start (to-loop a .before) in
+    token-few (b .pre .0 .playable) (to-loop a .loop .i - 1) (sym (a .agent-at .ensures) ∙ c .before .token2 .given .1) (List·Memᴰ·head refl)
 
 element-write-live-3 : tie.Need-element-write-live-3 Inv-loop μ-loop
 element-write-live-3 c =
@@ -147,9 +156,9 @@ enum-known-procedure c = search needs
 root-of-requires : tie.Need-root-of-requires Inv-loop μ-loop
 root-of-requires c κs =
     let a = c .before .before .before in
-    let h = a .before .before .before .before .before in
-    let b = h .before .before in
-    let known = procedure-known (b .pre .0 .playable) (a .before .before .before .before .loop .i - 1) (sym (a .agent-at .ensures) ∙ c .before .procedure .given .1) (List·Memᴰ·head refl) in
+    let h = to-loop a .before in
+    let b = to-start h in
+    let known = procedure-known (b .pre .0 .playable) (to-loop a .loop .i - 1) (sym (a .agent-at .ensures) ∙ c .before .procedure .given .1) (List·Memᴰ·head refl) in
     let e = ap (λ h. h .agents) (head-is h) in
     (omega (arith, b .pre .0 .playable .whole), (e, known))
 
@@ -186,8 +195,8 @@ loop-less-8 c = search needs
 loop-again-8 : tie.Need-loop-again-8 Inv-loop μ-loop
 loop-again-8 c =
     let a = c .before in
-    let b = a .before .before .before .before .before .before .before in
-    let l = a .before .before .before .before .loop in
+    let b = to-start (to-loop a .before) in
+    let l = to-loop a .loop in
     (omega arith, served-here (coming a) (subst (Served (decode (b .args .s .now)) (setOf (l .live)) (setOf (l .held))) (a .agent-at .ensures) (idle _ _ _ (a .agent-at .result) (c .match .keys5))))
 
 loop-less-9 : tie.Need-loop-less-9 Inv-loop μ-loop
@@ -195,13 +204,14 @@ loop-less-9 c = search needs
 
 loop-again-9 : tie.Need-loop-again-9 Inv-loop μ-loop
 loop-again-9 c =
-    let b = c .before .before .before .before .before .before in
-    let l = c .before .before .before .loop in
+    let at-loop = c .before .before .before in
+    let b = to-start (at-loop .before) in
+    let l = at-loop .loop in
     (omega arith, passed-by (decode (b .args .s .now)) (l .i) (b .args .live .now) (b .args .held .now) (l .live) (l .held) (l .grew) (l .inv .1) (l .i - 1) (omega arith) (λ m. absurd (true-is-false (member-flag (l .live) m) (c .if1 .left))))
 
 returns : tie.Need-returns Inv-loop μ-loop
 returns c =
-    let b = c .before .before .before .before in
+    let b = to-start (c .before .before) in
     let l = c .before .loop in
     let z : l .i ≡ 0 = omega arith in
     subst (λ n. Passed (decode (b .args .s .now)) n (b .args .live .now) (b .args .held .now) (l .live) (l .held) (l .grew)) z (l .inv .1)

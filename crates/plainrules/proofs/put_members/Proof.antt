@@ -29,48 +29,57 @@ Inv-loop plain₀ from draft table sets n at₀ k₀ plain at k =
 abbrev μ-loop : tie.MeasureT-loop
 μ-loop plain₀ from draft table sets n at₀ k₀ plain at k = n .sets - k
 
+-- Stations of the walk, each from a later place.
+abbrev to-start : tie.At-loop Inv-loop μ-loop → tie.Start Inv-loop μ-loop
+to-start c = c .before .before .before
+
+abbrev to-loop : tie.After-struct-known2 Inv-loop μ-loop → tie.At-loop Inv-loop μ-loop
+to-loop c = c .before .before .before .before .before
+
 loop-holds : tie.Need-loop-holds Inv-loop μ-loop
 loop-holds c = let a = c .before .before .args in (omega arith, refl, omega arith, sym (put-none (a .from) (a .plain .now)))
 
 mul-put-set : tie.Need-mul-put-set Inv-loop μ-loop
-mul-put-set c = omega (arith, c .before .before .before .before .before .before .pre .0 .sets-fit)
+mul-put-set c = omega (arith, to-start (c .before .before .before) .pre .0 .sets-fit)
 
 element-copy-out-put-set : tie.Need-element-copy-out-put-set Inv-loop μ-loop
-element-copy-out-put-set c = omega (arith, c .before .before .before .before .before .before .pre .0 .sets-fit)
+element-copy-out-put-set c = omega (arith, to-start (c .before .before .before) .pre .0 .sets-fit)
 
 add-put-set : tie.Need-add-put-set Inv-loop μ-loop
-add-put-set c = omega (arith, tokens-fit (c .before .before .before .before .before .before .before .before .pre .0))
+add-put-set c = omega (arith, tokens-fit (to-start (to-loop c) .pre .0))
 
 -- room for the rules from a set
 room : (c : tie.Then1 Inv-loop μ-loop) →
-    let a = c .before .before .before .before .before .args in
+    let a = to-start (c .before .before) .args in
     let l = c .before .before .loop in
     4 * (l .at + length (members (getD (setsIn (a .draft .now)) (l .k) 0))) ≤ length (a .plain .now)
 room c =
-    let b = c .before .before .before .before .before in
+    let b = to-start (c .before .before) in
     let l = c .before .before .loop in
     omega (arith, sets-room (b .args .n .tokens) (setsIn (b .args .draft .now)) (l .k) (omega (arith, sets-many (b .pre .0))), l .inv .2)
 
 put-set-requires : tie.Need-put-set-requires Inv-loop μ-loop
 put-set-requires c κs =
-    let b = c .before .before .before .before .before .before .before .before in
-    let l = c .before .before .before .before .before .loop in
+    let at-loop = to-loop c in
+    let b = to-start at-loop in
+    let l = at-loop .loop in
     let h : l .k < b .args .n .sets = omega arith in
     let fit = tokens-fit (b .pre .0) in
     (omega arith, (omega arith, (set-known (b .pre .0) (l .k) h, (omega (arith, room (c .before .before .before), ap length (set-members (b .pre .0) (l .k) h)), omega arith))))
 
 add-k : tie.Need-add-k Inv-loop μ-loop
-add-k c = omega (arith, c .before .before .before .before .before .before .before .before .before .before .before .pre .0 .sets-fit)
+add-k c = omega (arith, to-start (to-loop (c .before .before .before)) .pre .0 .sets-fit)
 
 loop-less : tie.Need-loop-less Inv-loop μ-loop
 loop-less c = search needs
 
 loop-again : tie.Need-loop-again Inv-loop μ-loop
 loop-again c =
-    let b = c .before .before .before .before .before .before .before .before .before .before .before in
+    let at-loop = to-loop (c .before .before .before) in
+    let b = to-start at-loop in
     let a = b .args in
     let g = b .pre .0 in
-    let l = c .before .before .before .before .before .before .before .before .loop in
+    let l = at-loop .loop in
     let u = a .n .tokens in
     let sets = setsIn (a .draft .now) in
     let h : l .k < length sets = omega (arith, sets-many g) in
@@ -89,7 +98,7 @@ same-length c = search needs
 
 returns : tie.Need-returns Inv-loop μ-loop
 returns c =
-    let b = c .before .before .before .before .before in
+    let b = to-start (c .before .before) in
     let a = b .args in
     let l = c .before .before .loop in
     let all : take (l .k) (setsIn (a .draft .now)) ≡ setsIn (a .draft .now) = take-all (l .k) (setsIn (a .draft .now)) (omega (arith, sets-many (b .pre .0))) in (

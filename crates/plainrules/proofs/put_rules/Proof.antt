@@ -19,6 +19,13 @@ Inv-loop plain₀ draft table sets n from rules k₀ plain k =
 abbrev μ-loop : tie.MeasureT-loop
 μ-loop plain₀ draft table sets n from rules k₀ plain k = rules - k
 
+-- Stations of the walk, each from a later place.
+abbrev to-start : tie.After-struct-known3 Inv-loop μ-loop → tie.Start Inv-loop μ-loop
+to-start c = c .before .before .before .before .before
+
+abbrev to-turn : tie.After-slice-known2 Inv-loop μ-loop → tie.In-loop Inv-loop μ-loop
+to-turn c = c .before .before .before .before .before .before
+
 ruled : (c : tie.Start Inv-loop μ-loop) → Ruled (c .args .draft .now) (2 + c .args .n .agents + c .args .n .procedures) (c .args .n .words)
 ruled c = gathered-rules (c .pre .0)
 
@@ -29,46 +36,49 @@ add-from-2 : tie.Need-add-from-2 Inv-loop μ-loop
 add-from-2 c = omega (arith, ruled (c .before .before .before .before))
 
 sub-rules : tie.Need-sub-rules Inv-loop μ-loop
-sub-rules c = ruled (c .before .before .before .before .before) .whole
+sub-rules c = ruled (to-start c) .whole
 
 loop-holds : tie.Need-loop-holds Inv-loop μ-loop
 loop-holds c =
-    let a = c .before .before .before .before .before .args in
+    let a = to-start c .args in
     (omega arith, refl, putting-none ruleWord (decodeDraft (a .draft .now) .rules) (2 + a .n .pairs) (a .plain .now))
 
 -- a rule that is there
 at-rule : (c : tie.In-loop Inv-loop μ-loop) →
-    let a = c .before .before .before .before .before .before .before .args in
+    let a = to-start (c .before .before) .args in
     2 + a .n .agents + a .n .procedures + c .before .loop .k ≤ 1346
-at-rule c = let r = ruled (c .before .before .before .before .before .before .before) in omega (arith, r .whole, r .few)
+at-rule c = let r = ruled (to-start (c .before .before)) in omega (arith, r .whole, r .few)
 
 add-word-at : tie.Need-add-word-at Inv-loop μ-loop
 add-word-at c = omega (arith, at-rule c)
 
 word-at-requires : tie.Need-word-at-requires Inv-loop μ-loop
-word-at-requires c κs = let r = ruled (c .before .before .before .before .before .before .before) in omega (arith, r .whole, r .words-are)
+word-at-requires c κs = let r = ruled (to-start (c .before .before)) in omega (arith, r .whole, r .words-are)
 
 add-put-word : tie.Need-add-put-word Inv-loop μ-loop
-add-put-word c = omega (arith, c .before .before .before .before .before .before .before .before .before .before .pre .0 .pairs-fit)
+add-put-word c = omega (arith, to-start (c .before .before .before .before .before) .pre .0 .pairs-fit)
 
 add-put-word-2 : tie.Need-add-put-word-2 Inv-loop μ-loop
-add-put-word-2 c = omega (arith, c .before .before .before .before .before .before .before .before .before .before .pre .0 .pairs-fit, at-rule (c .before .before .before))
+add-put-word-2 c =
+    let at-turn = c .before .before .before in
+    omega (arith, to-start (at-turn .before .before) .pre .0 .pairs-fit, at-rule at-turn)
 
 put-word-requires : tie.Need-put-word-requires Inv-loop μ-loop
-put-word-requires c κs = let r = ruled (c .before .before .before .before .before .before .before .before .before .before) in omega (arith, r .rules-are)
+put-word-requires c κs = let r = ruled (to-start (c .before .before .before .before .before)) in omega (arith, r .rules-are)
 
 add-k : tie.Need-add-k Inv-loop μ-loop
-add-k c = omega (arith, at-rule (c .before .before .before .before .before .before))
+add-k c = omega (arith, at-rule (to-turn c))
 
 loop-less : tie.Need-loop-less Inv-loop μ-loop
 loop-less c = search needs
 
 loop-again : tie.Need-loop-again Inv-loop μ-loop
 loop-again c =
-    let b = c .before .before .before .before .before .before .before .before .before .before .before .before .before in
+    let at-turn = to-turn c in
+    let b = to-start (at-turn .before .before) in
     let a = b .args in
     let r = ruled b in
-    let l = c .before .before .before .before .before .before .before .loop in
+    let l = at-turn .before .loop in
     let read = c .before .before .before .before .before .word-at in
     let put-word = c .before .before .put-word in (
       omega arith,
@@ -83,7 +93,7 @@ same-length c = search needs
 
 returns : tie.Need-returns Inv-loop μ-loop
 returns c =
-    let b = c .before .before .before .before .before .before .before in
+    let b = to-start (c .before .before) in
     let a = b .args in
     let l = c .before .loop in
     putting-all ruleWord (decodeDraft (a .draft .now) .rules) (2 + a .n .pairs) (a .plain .now) (l .k) (l .plain) (omega (arith, ruled b .rules-are)) (l .inv .2)

@@ -20,50 +20,64 @@ Inv-loop plain₀ draft table sets n k₀ plain k = (k ≤ n .copied) × (length
 abbrev μ-loop : tie.MeasureT-loop
 μ-loop plain₀ draft table sets n k₀ plain k = n .copied - k
 
+-- Stations of the walk, each from a later place.
+abbrev to-start : tie.At-loop Inv-loop μ-loop → tie.Start Inv-loop μ-loop
+to-start c = c .before .before .before
+
+abbrev to-loop : tie.After-agent-word Inv-loop μ-loop → tie.At-loop Inv-loop μ-loop
+to-loop c = c .before .before .before .before .before
+
 loop-holds : tie.Need-loop-holds Inv-loop μ-loop
 loop-holds c = let a = c .before .before .args in (omega arith, refl, putting-none agentWord (plainOf (decodeDraft (a .draft .now)) .agents) 2 (a .plain .now))
 
 mul-plain-agent : tie.Need-mul-plain-agent Inv-loop μ-loop
-mul-plain-agent c = omega (arith, agents-few (c .before .before .before .before .before .pre .0))
+mul-plain-agent c = omega (arith, agents-few (to-start (c .before .before) .pre .0))
 
 element-copy-out-plain-agent : tie.Need-element-copy-out-plain-agent Inv-loop μ-loop
-element-copy-out-plain-agent c = omega (arith, agents-few (c .before .before .before .before .before .pre .0))
+element-copy-out-plain-agent c = omega (arith, agents-few (to-start (c .before .before) .pre .0))
 
 plain-agent-requires : tie.Need-plain-agent-requires Inv-loop μ-loop
-plain-agent-requires c κs = let b = c .before .before .before .before .before .before in (b .pre .0, agent-entry (b .pre .0) (c .before .before .before .loop .k) (omega arith))
+plain-agent-requires c κs =
+    let at-loop = c .before .before .before in
+    let b = to-start at-loop in (b .pre .0, agent-entry (b .pre .0) (at-loop .loop .k) (omega arith))
 
 -- the agent is the plain score's
-made : (c : tie.After-plain-agent Inv-loop μ-loop) → c .plain-agent .result ≡ agentAt (plainOf (decodeDraft (c .before .before .before .before .before .before .before .args .draft .now))) (c .before .before .before .before .loop .k)
-made c = c .plain-agent .ensures ∙ agent-here (c .before .before .before .before .before .before .before .pre .0) (c .before .before .before .before .loop .k) (omega arith)
+made : (c : tie.After-plain-agent Inv-loop μ-loop) → c .plain-agent .result ≡ agentAt (plainOf (decodeDraft (to-start (c .before .before .before .before) .args .draft .now))) (c .before .before .before .before .loop .k)
+made c =
+    let at-loop = c .before .before .before .before in
+    c .plain-agent .ensures ∙ agent-here (to-start at-loop .pre .0) (at-loop .loop .k) (omega arith)
 
 agent-word-requires : tie.Need-agent-word-requires Inv-loop μ-loop
 agent-word-requires c κs =
-    let f : AgentFits (c .plain-agent .result) = subst⁻¹ AgentFits (made c) (agent-fits (c .before .before .before .before .before .before .before .pre .0) (c .before .before .before .before .loop .k) (omega arith)) in
+    let at-loop = c .before .before .before .before in
+    let f : AgentFits (c .plain-agent .result) = subst⁻¹ AgentFits (made c) (agent-fits (to-start at-loop .pre .0) (at-loop .loop .k) (omega arith)) in
     (f .tokens, (f .parts, f .procedures))
 
 add-put-word : tie.Need-add-put-word Inv-loop μ-loop
-add-put-word c = omega (arith, agents-few (c .before .before .before .before .before .before .before .before .before .pre .0))
+add-put-word c = omega (arith, agents-few (to-start (to-loop (c .before)) .pre .0))
 
 put-word-requires : tie.Need-put-word-requires Inv-loop μ-loop
 put-word-requires c κs = omega arith
 
 add-k : tie.Need-add-k Inv-loop μ-loop
-add-k c = omega (arith, agents-few (c .before .before .before .before .before .before .before .before .before .before .before .before .pre .0))
+add-k c = omega (arith, agents-few (to-start (to-loop (c .before .before .before .before)) .pre .0))
 
 loop-less : tie.Need-loop-less Inv-loop μ-loop
 loop-less c = search needs
 
 loop-again : tie.Need-loop-again Inv-loop μ-loop
 loop-again c =
-    let b = c .before .before .before .before .before .before .before .before .before .before .before .before in
+    let at-agent-word = c .before .before .before .before in
+    let at-loop = to-loop at-agent-word in
+    let b = to-start at-loop in
     let a = b .args in
-    let l = c .before .before .before .before .before .before .before .before .before .loop in
-    let word = c .before .before .before .before .agent-word in
+    let l = at-loop .loop in
+    let word = at-agent-word .agent-word in
     let put-word = c .before .before .put-word in (
       omega arith,
       put-word .kept .0 ∙ l .inv .1,
       putting-more agentWord (plainOf (decodeDraft (a .draft .now)) .agents) 2 (a .plain .now) Skip (l .k) (2 + l .k) (word .result) (l .plain) (put-word .last .0)
-          (omega (arith, agents-many (b .pre .0))) refl (omega arith) (word .ensures ∙ ap agentWord (made (c .before .before .before .before .before))) (l .inv .2) (put-word .ensures),
+          (omega (arith, agents-many (b .pre .0))) refl (omega arith) (word .ensures ∙ ap agentWord (made (at-agent-word .before))) (l .inv .2) (put-word .ensures),
     )
 
 same-length : tie.Need-same-length Inv-loop μ-loop
@@ -71,7 +85,7 @@ same-length c = search needs
 
 returns : tie.Need-returns Inv-loop μ-loop
 returns c =
-    let b = c .before .before .before .before .before in
+    let b = to-start (c .before .before) in
     let a = b .args in
     let l = c .before .before .loop in
     putting-all agentWord (plainOf (decodeDraft (a .draft .now)) .agents) 2 (a .plain .now) (l .k) (l .plain) (omega (arith, agents-many (b .pre .0))) (l .inv .2)

@@ -8,6 +8,13 @@ use Rattle.standing.specs.Standing.{stateIn}
 use Rattle.standing.proofs.write_standing.Statement.{statement}
 use Rattle.standing.proofs.write_standing.Tie as tie
 
+-- Stations of the walk, each from a later place.
+abbrev to-start : tie.After-write-unnumbered → tie.Start
+to-start c = c .before .before .before
+
+abbrev to-unnumbered : tie.After-slice-known3 → tie.After-write-unnumbered
+to-unnumbered c = c .before .before .before .before .before .before
+
 write-unnumbered-requires : tie.Need-write-unnumbered-requires
 write-unnumbered-requires c κs = let b = c .before .before in (omega (arith, b .pre .0), b .pre .1)
 
@@ -19,8 +26,9 @@ same-length c = search needs
 
 returns : tie.Need-returns
 returns c =
-    let a = c .before .before .before .before .before .before .before .before .before .args in
-    let s = c .before .before .before .before .before .before .write-unnumbered in
+    let at-unnumbered = to-unnumbered c in
+    let a = to-start at-unnumbered .args in
+    let s = at-unnumbered .write-unnumbered in
     let t = c .before .before .write-number in
     numbered-put (stateIn (a .standing)) (a .number) (drop unnumberedBytes (a .state .now)) (s .last .0) (t .last .0) (s .ensures) (t .ensures)
 

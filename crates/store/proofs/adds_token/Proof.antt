@@ -14,6 +14,13 @@ use Rattle.store.specs.Passes.{adds}
 use Rattle.store.proofs.adds_token.Statement.{statement}
 use Rattle.store.proofs.adds_token.Tie as tie
 
+-- Stations of the walk, each from a later place.
+abbrev to-start : tie.Else1 → tie.Start
+to-start c = c .before .before .before
+
+abbrev to-conclusion : tie.Then3 → tie.Else1
+to-conclusion c = c .before .before .before .before .before .before
+
 -- a field of 8 bits is the place of a flag
 below-256 : (w lowest : ℕ) {n : ℕ} → n ≡ field w lowest 8 → n < 256
 below-256 w lowest e = omega (arith, field-below w lowest 8)
@@ -62,11 +69,12 @@ element-copy-out-if3 c = below-256 _ _ (c .number3 .ensures)
 
 returns-2 : tie.Need-returns-2
 returns-2 c =
-    let b = c .before .before .before .before .before .before .before .before .before in
+    let at-conclusion = to-conclusion c in
+    let b = to-start at-conclusion in
     let s = b .args .store .now in
     let second : c .before .before .number3 .result ≡ field (b .args .w) 16 8 = c .before .before .number3 .ensures in
     both-in s (b .args .w) (b .args .facts)
-    (flag s (c .before .before .before .before .before .before .before .before .number .ensures) (c .before .before .before .before .before .before .if1 .left))
+    (flag s (at-conclusion .before .before .number .ensures) (at-conclusion .if1 .left))
     (flag s (c .before .before .before .before .before .number2 .ensures) (c .before .before .before .if2 .taken))
     (flag s second (c .if3 .taken))
 
@@ -75,9 +83,10 @@ is-fact-requires c κs = search needs
 
 returns-3 : tie.Need-returns-3
 returns-3 c =
-    let b = c .before .before .before .before .before .before .before in
+    let at-conclusion = c .before .before .before .before in
+    let b = to-start at-conclusion in
     let s = b .args .store .now in
-    let out = flag s (c .before .before .before .before .before .before .number .ensures) (c .before .before .before .before .if1 .left) in
+    let out = flag s (at-conclusion .before .before .number .ensures) (at-conclusion .if1 .left) in
     let first = c .before .before .before .number2 .ensures in
     ap (λ x. b .args .facts && x) (c .is-fact .ensures)
     ∙ ⊎-elim
