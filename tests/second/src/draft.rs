@@ -2,7 +2,6 @@
 
 pub mod acts;
 pub mod damaged;
-pub mod every_order;
 pub mod limits;
 pub mod order;
 pub mod player;

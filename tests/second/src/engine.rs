@@ -1,6 +1,7 @@
 //! The order of an instant, step by step as the document tells it: copies in a multiset, any one of them reduced.
 
 use crate::decoded::{Agent, Decoded, Form, Rule, Token};
+use crate::every_order::Steps;
 use crate::random::Random;
 use crate::scratch::Scratch;
 use crate::weight::Weights;
@@ -195,6 +196,40 @@ impl Order<'_> {
                 _ => None,
             },
         }
+    }
+}
+
+impl Steps for Order<'_> {
+    /// The copies, the store, and the agents reduced before.
+    type Point = (Vec<Copied>, Store, BTreeSet<Agent>);
+    type End = End;
+
+    fn point(&self) -> Self::Point {
+        let mut copies = self.copies.clone();
+        copies.sort_unstable();
+        (copies, self.store.clone(), self.reduced.clone())
+    }
+
+    fn weight(&self) -> u64 {
+        let mut weights = Weights::new(self.score);
+        let weight_of = |&copy: &Copied| match copy {
+            Copied::Agent(agent) => weights.of(agent),
+            Copied::Input(_) => 1,
+        };
+        self.copies.iter().map(weight_of).fold(0, u64::saturating_add)
+    }
+
+    fn onward(&self) -> Vec<Self> {
+        let reduced_at = |place| {
+            let mut longer = self.clone();
+            longer.reduce(place);
+            longer
+        };
+        (0..self.copies.len()).filter(|&place| self.can_reduce(self.copies[place])).map(reduced_at).collect()
+    }
+
+    fn end(&self) -> End {
+        Order::end(self)
     }
 }
 

@@ -1,48 +1,50 @@
-//! All orders of an instant, for scores that are small enough.
+//! All orders of an instant of a score or of a draft, where they are few enough.
 
-use crate::decoded::{Agent, Decoded, Token};
-use crate::engine::{Copied, End, Order, Store};
-use crate::weight::Weights;
-use std::collections::{BTreeSet, HashMap, HashSet};
+use std::collections::{HashMap, HashSet};
+use std::hash::Hash;
 
-/// What the rest of an order hangs on, and the agents reduced before.
-type Point = (Vec<Copied>, Store, BTreeSet<Agent>);
+/// An order, as far as it has come.
+pub trait Steps: Sized {
+    /// What the rest of an order and its end hang on.
+    type Point: Eq + Hash;
+    type End: Eq + Hash;
 
-struct Search<'a> {
-    weights: Weights<'a>,
+    fn point(&self) -> Self::Point;
+    /// The weight of the copies left.
+    fn weight(&self) -> u64;
+    /// The orders that are one step longer.
+    fn onward(&self) -> Vec<Self>;
+    /// The end of an order that is finished.
+    fn end(&self) -> Self::End;
+}
+
+struct Search<O: Steps> {
     /// The points met, and the most steps that an order takes from each.
-    longest: HashMap<Point, u64>,
+    longest: HashMap<O::Point, u64>,
     most_points: usize,
-    ends: HashSet<End>,
+    ends: HashSet<O::End>,
 }
 
 /// The ends of all finished orders; nothing where they pass through too many points, and an error where an order is
 /// longer than its weight.
-pub fn ends(
-    score: &Decoded,
-    agents: &[Agent],
-    inputs: &[Token],
-    most_points: usize,
-) -> Result<Option<HashSet<End>>, String> {
-    let mut search =
-        Search { weights: Weights::new(score), longest: HashMap::new(), most_points, ends: HashSet::new() };
-    let longest = search.follow(Order::start(score, agents, inputs))?;
+pub fn ends<O: Steps>(start: O, most_points: usize) -> Result<Option<HashSet<O::End>>, String> {
+    let mut search = Search { longest: HashMap::new(), most_points, ends: HashSet::new() };
+    let longest = search.follow(&start)?;
     Ok(longest.map(|_| search.ends))
 }
 
-impl Search<'_> {
+impl<O: Steps> Search<O> {
     /// The most steps that an order takes from here on.
-    fn follow(&mut self, mut order: Order) -> Result<Option<u64>, String> {
-        order.copies.sort_unstable();
-        let point = (order.copies.clone(), order.store.clone(), order.reduced.clone());
+    fn follow(&mut self, order: &O) -> Result<Option<u64>, String> {
+        let point = order.point();
         if let Some(&longest) = self.longest.get(&point) {
             return Ok(Some(longest));
         }
         if self.longest.len() >= self.most_points {
             return Ok(None);
         }
-        let Some(longest) = self.follow_steps(&order)? else { return Ok(None) };
-        let weight = self.weight(&order.copies);
+        let Some(longest) = self.follow_steps(order)? else { return Ok(None) };
+        let weight = order.weight();
         if longest > weight {
             return Err(format!("an order of {longest} steps has weight {weight}"));
         }
@@ -50,33 +52,16 @@ impl Search<'_> {
         Ok(Some(longest))
     }
 
-    fn follow_steps(&mut self, order: &Order) -> Result<Option<u64>, String> {
-        let mut longest = 0;
-        let mut finished = true;
-        for (place, &copy) in order.copies.iter().enumerate() {
-            if !order.can_reduce(copy) {
-                continue;
-            }
-            finished = false;
-            if place > 0 && order.copies[place - 1] == copy {
-                continue;
-            }
-            let mut onward = order.clone();
-            onward.reduce(place);
-            let Some(steps) = self.follow(onward)? else { return Ok(None) };
-            longest = longest.max(1 + steps);
-        }
-        if finished {
+    fn follow_steps(&mut self, order: &O) -> Result<Option<u64>, String> {
+        let onward = order.onward();
+        if onward.is_empty() {
             self.ends.insert(order.end());
         }
+        let mut longest = 0;
+        for longer in &onward {
+            let Some(steps) = self.follow(longer)? else { return Ok(None) };
+            longest = longest.max(1 + steps);
+        }
         Ok(Some(longest))
-    }
-
-    fn weight(&mut self, copies: &[Copied]) -> u64 {
-        let weight_of = |copy: &Copied| match *copy {
-            Copied::Agent(agent) => self.weights.of(agent),
-            Copied::Input(_) => 1,
-        };
-        copies.iter().map(weight_of).fold(0, u64::saturating_add)
     }
 }

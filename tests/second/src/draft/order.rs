@@ -4,7 +4,9 @@
 use crate::decoded::{Agent, Form as Plain, Token};
 use crate::draft::{Draft, Form};
 use crate::engine::{close, Store};
+use crate::every_order::Steps;
 use crate::random::Random;
+use crate::weight::Weights;
 use std::collections::BTreeSet;
 
 /// An agent, and the watch tokens that it stands under.
@@ -166,6 +168,40 @@ impl Order<'_> {
 
     fn is_stopped(&self, watched: &Watched) -> bool {
         watched.under.iter().any(|&token| self.store[token])
+    }
+}
+
+impl Steps for Order<'_> {
+    /// The copies, the store, and whether it was aborted.
+    type Point = (Vec<Copied>, Store, bool);
+    type End = End;
+
+    fn point(&self) -> Self::Point {
+        let mut copies = self.copies.clone();
+        copies.sort_unstable();
+        (copies, self.store.clone(), self.aborted)
+    }
+
+    fn weight(&self) -> u64 {
+        let mut weights = Weights::new(&self.draft.score);
+        let weight_of = |copy: &Copied| match copy {
+            Copied::Agent(watched) => weights.of(watched.agent),
+            Copied::Input(_) => 1,
+        };
+        self.copies.iter().map(weight_of).fold(0, u64::saturating_add)
+    }
+
+    fn onward(&self) -> Vec<Self> {
+        let reduced_at = |place| {
+            let mut longer = self.clone();
+            longer.reduce(place);
+            longer
+        };
+        (0..self.copies.len()).filter(|&place| self.can_reduce(&self.copies[place])).map(reduced_at).collect()
+    }
+
+    fn end(&self) -> End {
+        Order::end(self)
     }
 }
 

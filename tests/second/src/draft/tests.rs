@@ -9,7 +9,7 @@ use crate::generate::{Score, Trial};
 use crate::lent::*;
 use crate::random::Random;
 use crate::words::{self, *};
-use crate::{calls, circles, generate, translate};
+use crate::{calls, circles, every_order, generate, translate};
 use std::collections::{BTreeMap, BTreeSet};
 
 type Make = fn(&mut Random) -> Vec<u8>;
@@ -116,7 +116,8 @@ fn follow_every_order(random: &mut Random, bytes: &[u8], met: &mut Met) {
         if oracle::words(&wanted)[0] == instant_word(2) && player.awake().is_empty() {
             return;
         }
-        let ends = every_order::ends(&draft, player.awake(), inputs, MOST_POINTS).expect("no order passes its weight");
+        let ends = every_order::ends(Order::start(&draft, player.awake(), inputs), MOST_POINTS)
+            .expect("no order passes its weight");
         met.note("followed", ends.is_some());
         let Some(ends) = ends else { return };
         let [end] = &ends.into_iter().collect::<Vec<_>>()[..] else { panic!("orders end differently: {}", hex(bytes)) };

@@ -130,7 +130,8 @@ fn every_order_of_a_tiny_score_sets_the_same_bits() {
         let mut random = Random::new(1, index);
         let score = scenes::tiny_score(&mut random);
         let (lent, agents, inputs) = instant_of(&mut random, score);
-        let ends = every_order::ends(&Decoded::new(&lent.score), &agents, &inputs, 500).expect("no order is too long");
+        let ends = every_order::ends(Order::start(&Decoded::new(&lent.score), &agents, &inputs), 500)
+            .expect("no order is too long");
         let Some(ends) = ends else { continue };
         assert_eq!(ends.len(), 1);
         for end in ends {

@@ -4,7 +4,7 @@ use crate::{library, overlap};
 use second::answer::{refused, same, Answer};
 use second::calls::{bits_of_instants, instant_call, InstantLent};
 use second::decoded::Decoded;
-use second::engine::{self, End};
+use second::engine::{self, End, Order};
 use second::guarded::{guards, GUARDS};
 use second::lent::*;
 use second::random::Random;
@@ -385,7 +385,7 @@ fn running(random: &mut Random, score: &[u8], decoded: &Decoded) -> InstantLent 
 fn ends_of_orders(random: &mut Random, score: &Decoded, lent: &InstantLent) -> Result<Option<HashSet<End>>, String> {
     let Some(State { awake: Awake::Running(awake), .. }) = State::read(score, &lent.state) else { return Ok(None) };
     let copies: Vec<_> = awake.iter().flat_map(|&agent| vec![agent; random.pick(&[1, 1, 2])]).collect();
-    every_order::ends(score, &copies, &map_tokens(&lent.input), MOST_POINTS)
+    every_order::ends(Order::start(score, &copies, &map_tokens(&lent.input)), MOST_POINTS)
 }
 
 fn answer_of(end: &End) -> Answer {
