@@ -14,17 +14,18 @@ use mathlib.Core.Logic.{⊎-elim}
 use Prim.Native.Nat.{ℕ, _+_, _<_}
 use lib.ListN.{getD}
 use Rattle.laws.specs.Sets.{keep}
+use Rattle.laws.specs.Rising.{Rising, none}
 use Rattle.laws.proofs.Booleans.{true-is-false, cond-true, cond-false}
 use Rattle.laws.proofs.Sets.{Within, Among}
+use Rattle.laws.proofs.Rising.{rising-unique}
 use Rattle.tcc.specs.declared.Agent.{Agent}
 use Rattle.tcc.specs.declared.Agent.the-variants.{Skip, Abort, Tell, Parallel, When, Next, Unless, Call}
 use Rattle.drafts.specs.Draft.{Draft, writtenAt, asWhen, LawfulDraft}
 use Rattle.drafts.specs.declared.Written.{Written}
 use Rattle.pairs.specs.TokenSets.{holds, members, several}
 use Rattle.pairs.specs.Pairs.{numberIn, setIn, insert, insertAll, indexOf}
-use Rattle.pairs.specs.Rising.{Rising, none}
 use Rattle.pairs.proofs.TokenSets.{holds-none}
-use Rattle.pairs.proofs.Rising.{insert-rising, insert-member, member-insert, insert-kept, insert-all-rising, insert-all-member, member-insert-all, rising-same}
+use Rattle.pairs.proofs.Rising.{insert-rising, insert-member, member-insert, insert-kept, insert-all-rising, insert-all-member, member-insert-all}
 use Rattle.pairtable.specs.Tables.{Placed}
 use Rattle.pairtable.proofs.Tables.{placed-index}
 use Rattle.translation.specs.Led.{Led}
@@ -39,7 +40,7 @@ inserted : (l : List ℕ) {m : ℕ} → List·Memᴰ m (insertAll l []) → List
 inserted l {m} x = ⊎-elim (λ (y : List·Memᴰ m l). y) (λ (y : List·Memᴰ m []). absurd (List·Memᴰ·not-nil y)) (insert-all-member l [] x)
 
 insert-all-more : (ks : List ℕ) (x : ℕ) → insertAll (ks ++ (x ∷ [])) [] ≡ insert x (insertAll ks [])
-insert-all-more ks x = rising-same (insertAll more []) (insert x (insertAll ks [])) (insert-all-rising more [] none) (insert-rising x (insertAll ks []) (insert-all-rising ks [] none)) (λ m. (to m, from m))
+insert-all-more ks x = rising-unique (insert-all-rising more [] none) (insert-rising x (insertAll ks []) (insert-all-rising ks [] none)) (λ m. (to m, from m))
   where
     more : List ℕ
     more = ks ++ (x ∷ [])

@@ -18,6 +18,7 @@ use native.Mathlib.Omega.{arith}
 use borrow.Author.Tests.{lt-ltb, le-ltb}
 use lib.Dec.{eqb, ltb}
 use lib.ListN.{length, getD, length-map, length-take, length-drop}
+use Rattle.laws.specs.Rising.{Rising}
 use Rattle.laws.proofs.Booleans.{either}
 use Rattle.laws.proofs.Sets.{Within}
 use Rattle.words.specs.Word.{words}
@@ -26,7 +27,6 @@ use Rattle.drafts.specs.Draft.{Draft, writtenAt}
 use Rattle.drafts.specs.declared.Written.{Written}
 use Rattle.pairs.specs.TokenSets.{holds, members, several}
 use Rattle.pairs.specs.Pairs.{numberIn, setIn, insert}
-use Rattle.pairs.specs.Rising.{Rising}
 use Rattle.rows.specs.Rows.{rowValue}
 use Rattle.rows.proofs.Rows.{members-set}
 use Rattle.pairtable.specs.Tables.{keys, Entered}

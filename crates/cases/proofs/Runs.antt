@@ -26,7 +26,7 @@ use Rattle.lent.proofs.Numbered.{numbered-length, numbered-same, numbered-fault
 use Rattle.form.specs.declared.Form.the-variants.{Good}
 use Rattle.form.specs.Form.{formOf}
 use Rattle.parts.specs.Instants.{inputLists}
-use Rattle.journal.specs.History.{entry, Rising}
+use Rattle.journal.specs.History.{entry, RisingBelow}
 use Rattle.journal.proofs.Forms.{good-inputs}
 use Rattle.history.specs.AnswerIn.{answerIn}
 use Rattle.history.proofs.Stands.{written-stands, instant-entry, after-state, next-lawful, instant-lawful}
@@ -48,7 +48,7 @@ module _ (score : List ℕ) (accepted : numberOf (verdict score) ≡ 0) where
   counted : length (decode score .agents) ≡ sizes score .agents
   counted = playable-agents score (playable score accepted)
 
-  pub run-plays : (lists : List (List ℕ)) → Within (Rising (decode score .tokens)) lists → (st : State) → LawfulState (length (decode score .agents)) st → (n room : ℕ) → n + length lists ≤ lastNumber →
+  pub run-plays : (lists : List (List ℕ)) → Within (RisingBelow (decode score .tokens)) lists → (st : State) → LawfulState (length (decode score .agents)) st → (n room : ℕ) → n + length lists ≤ lastNumber →
       runFrom score (numbered st n) room lists ≡ playOn (decode score) st n room lists
   unfolding runFrom stopAt playOn
   run-plays [] rising st lawful n room few = refl
@@ -70,7 +70,7 @@ module _ (score : List ℕ) (accepted : numberOf (verdict score) ≡ 0) where
       exit score inputs (lent (numbered st 0) journal scratch) ≡ ended (lent (numbered st 0) journal scratch) (playOn (decode score) st 0 (length journal) (inputLists inputs))
   unfolding exit
   exit-plays inputs journal scratch st lawful long good few =
-      let rising : Within (Rising (decode score .tokens)) (inputLists inputs) = λ l m. subst (λ t. Rising t l) (sym (decode-tokens score)) (good-inputs false (sizes score .tokens) inputs good l m) in
+      let rising : Within (RisingBelow (decode score .tokens)) (inputLists inputs) = λ l m. subst (λ t. RisingBelow t l) (sym (decode-tokens score)) (good-inputs false (sizes score .tokens) inputs good l m) in
       rw (
         accepted,
         numbered-length st 0,

@@ -31,7 +31,7 @@ use Rattle.lent.proofs.Numbered.{number-round, next-number}
 use Rattle.form.specs.declared.Form.the-variants.{Good}
 use Rattle.form.specs.Form.{formOf}
 use Rattle.parts.specs.Instants.{instantsIn, inputsIn, tokensOf}
-use Rattle.journal.specs.History.{instantWords, entry, history, Rising}
+use Rattle.journal.specs.History.{instantWords, entry, history, RisingBelow}
 use Rattle.journal.proofs.Rising.{output-rising}
 use Rattle.journal.proofs.Forms.{WellFormed}
 use Rattle.journal.proofs.Formed.{words-inputs, words-outputs, words-formed, formed-good, formed-instants}
@@ -73,10 +73,10 @@ kept sc st (inputs ∷ more) n =
 
 module _ (sc : Score) (law : Lawful sc) where
   -- what went to the ports is what goes there at status 0
-  rises : (store : List ℕ) → Rising (sc .tokens) (outputBefore sc store)
-  rises store = subst (Rising (sc .tokens)) (output-else sc 0 store (λ e. omega (arith, e))) (output-rising sc 0 store (law .ports-ordered) (law .ports-known))
+  rises : (store : List ℕ) → RisingBelow (sc .tokens) (outputBefore sc store)
+  rises store = subst (RisingBelow (sc .tokens)) (output-else sc 0 store (λ e. omega (arith, e))) (output-rising sc 0 store (law .ports-ordered) (law .ports-known))
 
-  module _ (st : State) (inputs : List ℕ) (rising : Rising (sc .tokens) inputs) where
+  module _ (st : State) (inputs : List ℕ) (rising : RisingBelow (sc .tokens) inputs) where
     abbrev a : Answer
     a = answer sc st inputs
 
@@ -109,13 +109,13 @@ module _ (sc : Score) (law : Lawful sc) where
         go true h = absurd (entry-other e (same-equal _ _ h))
         go false h = h
 
-  entries-formed : (st : State) (lists : List (List ℕ)) → Within (Rising (sc .tokens)) lists → Within (WellFormed true (sc .tokens)) (entriesBefore sc st lists)
+  entries-formed : (st : State) (lists : List (List ℕ)) → Within (RisingBelow (sc .tokens)) lists → Within (WellFormed true (sc .tokens)) (entriesBefore sc st lists)
   unfolding entriesBefore
   entries-formed st [] h = λ x m. elim m [ ]
   entries-formed st (inputs ∷ more) h = on-cons (entry-formed st inputs (h inputs (List·Memᴰ·head refl))) (entries-formed (after (answer sc st inputs)) more (λ x m. h x (List·Memᴰ·tail m)))
 
 module _ (score : List ℕ) (law : Lawful (decode score)) (counted : length (decode score .agents) ≡ sizes score .agents) where
-  stopped : (lists : List (List ℕ)) → Within (Rising (decode score .tokens)) lists → (state : List ℕ) (st : State) → Stands score law counted state st → (read : ℕ) → instantNumber state + length lists ≤ lastNumber →
+  stopped : (lists : List (List ℕ)) → Within (RisingBelow (decode score .tokens)) lists → (state : List ℕ) (st : State) → Stands score law counted state st → (read : ℕ) → instantNumber state + length lists ≤ lastNumber →
       (earlier later : List Answer) (a : Answer) → answers (decode score) st lists ≡ earlier ++ a ∷ later → Unclashed earlier → a .status ≡ 1 →
       checkFrom score state read (entriesBefore (decode score) st lists) ≡ Differs (read + length earlier)
   unfolding checkFrom entriesBefore answers
@@ -138,7 +138,7 @@ module _ (score : List ℕ) (law : Lawful (decode score)) (counted : length (dec
       (rest ∙ ap Differs (omega arith))
 
 module _ (score before : List ℕ) (lists : List (List ℕ)) (accepted : verdicts.numberOf (check.verdict score) ≡ 0) (long : length before ≡ scratchBytes)
-    (rising : (l : List ℕ) → List·Memᴰ l lists → Rising (decode score .tokens) l) (few : length lists ≤ lastNumber) where
+    (rising : (l : List ℕ) → List·Memᴰ l lists → RisingBelow (decode score .tokens) l) (few : length lists ≤ lastNumber) where
   abbrev sc : Score
   sc = decode score
 

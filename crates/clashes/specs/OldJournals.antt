@@ -18,7 +18,7 @@ use Rattle.scorefile.specs.Check.{verdict}
 use Rattle.bits.specs.Bits.{bytesOf}
 use Rattle.lent.specs.Lengths.{scratchBytes}
 use Rattle.lent.specs.States.{lastNumber}
-use Rattle.journal.specs.History.{instantWords, history, Rising}
+use Rattle.journal.specs.History.{instantWords, history, RisingBelow}
 use Rattle.answer.specs.Answer.{numberIn, valueIn}
 use Rattle.score.specs.ScoreJournalCheck.{ScoreJournalCheck}
 
@@ -48,6 +48,6 @@ TurnedDown score inputs checked =
 abbrev pub OldJournals : Type 0
 OldJournals =
     (score before after : List ℕ) (checked : ℕ) (inputs : List (List ℕ)) → numberOf (verdict score) ≡ 0 → length before ≡ scratchBytes →
-    ((l : List ℕ) → List·Memᴰ l inputs → Rising (decode score .tokens) l) → length inputs ≤ lastNumber →
+    ((l : List ℕ) → List·Memᴰ l inputs → RisingBelow (decode score .tokens) l) → length inputs ≤ lastNumber →
     ScoreJournalCheck score (bytesOf (historyBefore (decode score) (startState (decode score)) inputs)) before after checked →
     Kept score inputs checked × TurnedDown score inputs checked

@@ -27,12 +27,12 @@ use borrow.Author.Tests.{leb-true}
 use lib.Dec.{leb}
 use lib.ListN.{length, length-map}
 use Rattle.laws.specs.Sets.{has}
+use Rattle.laws.specs.Rising.{Rising, none}
 use Rattle.laws.proofs.Booleans.{true-is-false, and-both}
 use Rattle.laws.proofs.Sets.{Within, Among, on-cons, on-append, has-member, member-has}
 use Rattle.tcc.specs.Score.{Score}
 use Rattle.drafts.specs.Draft.{Draft}
 use Rattle.pairs.specs.Pairs.{pair, insert}
-use Rattle.pairs.specs.Rising.{Rising, none}
 use Rattle.pairs.proofs.Rising.{insert-rising, insert-member, member-insert, insert-kept, insert-present, insert-longer, rising-among}
 use Rattle.pairtable.specs.Tables.{keys, Entered}
 use Rattle.pairtable.proofs.Tables.{keys-length}

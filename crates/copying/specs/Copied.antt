@@ -9,9 +9,9 @@ use mathlib.Core.List.{List, List·Memᴰ}
 use mathlib.Core.Logic.{_⊎_}
 use Prim.Native.Nat.{ℕ, _<_, _≤_}
 use lib.ListN.{length}
+use Rattle.laws.specs.Rising.{Rising}
 use Rattle.drafts.specs.Draft.{Draft}
 use Rattle.pairs.specs.Pairs.{mostPairs}
-use Rattle.pairs.specs.Rising.{Rising}
 use Rattle.pairtable.specs.Tables.{keys}
 use Rattle.translation.specs.Places.{leadsTo, places}
 use Rattle.translation.specs.Plain.{plainOf, fits}

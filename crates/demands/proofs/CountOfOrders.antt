@@ -47,16 +47,16 @@ unfolding answer
 running-answer sc inputs e = ap (λ x. answer sc x inputs) e
 
 -- agents reduced that stand in rising order
-abbrev Rising : Score → Answer → Type 0
-Rising sc a = a .reduced ≡ keep (λ i. has i (a .reduced)) (below (length (sc .agents)))
+abbrev InOrder : Score → Answer → Type 0
+InOrder sc a = a .reduced ≡ keep (λ i. has i (a .reduced)) (below (length (sc .agents)))
 
 kept-rising : (f : ℕ → Bool) (n : ℕ) → keep f (below n) ≡ keep (λ i. has i (keep f (below n))) (below n)
 kept-rising f n = keep-agrees f (λ i. has i (keep f (below n))) (below n) (λ i k. sym (has-kept f n i (below-lt n i k)))
 
 module _ (sc : Score) (agents inputs : List ℕ) where
-  reduced-rising : Rising sc (instant sc agents inputs)
+  reduced-rising : InOrder sc (instant sc agents inputs)
   unfolding instant
-  reduced-rising = either (Rising sc) (any (λ i. isAbort (agentAt sc i)) (liveIn (reached sc agents inputs)))
+  reduced-rising = either (InOrder sc) (any (λ i. isAbort (agentAt sc i)) (liveIn (reached sc agents inputs)))
       (sym (keep-none (λ i. false) (below (length (sc .agents))) (λ i k. refl)))
       (kept-rising (λ i. has i (liveIn (reached sc agents inputs)) && reducible (heldIn (reached sc agents inputs)) (agentAt sc i)) (length (sc .agents)))
 

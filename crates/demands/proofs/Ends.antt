@@ -28,8 +28,7 @@ use Rattle.lent.proofs.Numbered.{numbered-same}
 use Rattle.lent.proofs.SameState.{state-running, state-aborted}
 use Rattle.maps.specs.Maps.{tokensIn, mapOf}
 use Rattle.maps.proofs.Round.{mapOf-same, map-round}
-use Rattle.journal.specs.History as journal
-use Rattle.journal.proofs.Rising.{rising-map}
+use Rattle.journal.proofs.Rising.{none-rising, rising-map}
 use Rattle.demands.specs.Calls.{Answered}
 use Rattle.demands.specs.Determinacy.{EndsLike}
 use Rattle.demands.specs.Operational.{Holds, Leaves}
@@ -93,7 +92,7 @@ module _ {score : List ℕ} {p : Answered} (h : IsInstant score p) where
   pub ends-like : (e : End) → EndsAs (decode score) e now → EndsLike (decode score) e p
   ends-like aborted e = let holds = aborted-holds e in record {
     status = holds .status-is;
-    no-store = ap tokensIn (holds .store-is) ∙ rising-map 0 [] (omega arith) journal.Rising.none;
+    no-store = ap tokensIn (holds .store-is) ∙ rising-map 0 [] (omega arith) none-rising;
     is-aborted = state-aborted (stateOf (p .after)) (subst (λ a. SameState (stateOf (p .after)) (after a)) e (after-round h));
   }
   ends-like (left l s) q =

@@ -24,7 +24,7 @@ use Rattle.form.specs.declared.Form.{Form}
 use Rattle.form.specs.declared.Form.the-variants.{Good, Bytes, Word}
 use Rattle.form.specs.Form.{formOf}
 use Rattle.parts.specs.Instants.{instantsIn, inputsIn}
-use Rattle.journal.specs.History.{entry, Rising, IsHistory}
+use Rattle.journal.specs.History.{entry, RisingBelow, IsHistory}
 use Rattle.journal.proofs.Forms.{good-whole, good-instants, good-words, bytes-words}
 use Rattle.journal.proofs.Histories.{history-joined, history-good, history-instants}
 use Rattle.history.specs.declared.Reply.{Reply}
@@ -92,11 +92,11 @@ module _ (score : List ℕ) (accepted : verdicts.numberOf (check.verdict score) 
             let sc = decode score in
             let instants = instantsIn (words journal) in
             let zero : instantNumber (startBytes sc) ≡ 0 = number-round (startState sc) 0 (omega arith) in
-            let rising : Within (λ ws. Rising (sc .tokens) (inputsIn ws)) instants = λ ws m. subst⁻¹ (λ t. Rising t (inputsIn ws)) (decode-tokens score) (good-instants true (sizes score .tokens) journal g (lent .small) ws m .formed .inputs) in
+            let rising : Within (λ ws. RisingBelow (sc .tokens) (inputsIn ws)) instants = λ ws m. subst⁻¹ (λ t. RisingBelow t (inputsIn ws)) (decode-tokens score) (good-instants true (sizes score .tokens) journal g (lent .small) ws m .formed .inputs) in
             let x = check-exact score (lawful score accepted) (agents-counted score accepted) instants rising (startBytes sc) (startState sc) start-stands 0 n (omega (arith, zero)) e in (
               record {
                 inputs = map inputsIn instants;
-                rising = on-map (Rising (sc .tokens)) inputsIn instants rising;
+                rising = on-map (RisingBelow (sc .tokens)) inputsIn instants rising;
                 instants = length-map instants inputsIn ∙ omega arith;
                 is =
                     sym (bytes-words journal (lent .small) (good-whole true (sizes score .tokens) journal g))

@@ -21,8 +21,8 @@ use Rattle.maps.specs.Maps.{tokensIn, mapOf}
 use Rattle.maps.proofs.Round.{mapOf-length}
 use Rattle.instant.specs.InstantCall.{Lent, lent, lengthFault, exit}
 use Rattle.instant.proofs.Exits.{Lengths-are}
-use Rattle.journal.specs.History.{entry, Rising}
-use Rattle.journal.proofs.Rising.{rising-below, rising-map}
+use Rattle.journal.specs.History.{entry, RisingBelow}
+use Rattle.journal.proofs.Rising.{rising-map}
 use Rattle.history.specs.AnswerIn.{answerIn}
 use Rattle.runlist.specs.declared.Stop.{Stop}
 use Rattle.runlist.specs.declared.Stop.the-variants.{Not, Next, Last, Room}
@@ -42,10 +42,10 @@ lengths-right : (input : List ℕ) (l : Lent) → Lengths-are input l → length
 lengths-right input l r = rw (r .state-long, r .input-long, r .store-long, r .output-long, r .scratch-long)
 
 module _ (score : List ℕ) where
-  tokens-back : {inputs : List ℕ} → Rising (decode score .tokens) inputs → tokensIn (mapOf inputs) ≡ inputs
+  tokens-back : {inputs : List ℕ} → RisingBelow (decode score .tokens) inputs → tokensIn (mapOf inputs) ≡ inputs
   tokens-back {inputs} r = rising-map (decode score .tokens) inputs (omega (arith, decode-tokens score, sizes-few score .0)) r
 
-  pub played-instant : {inputs : List ℕ} {l m : Lent} {a : ℕ} → Rising (decode score .tokens) inputs → ScoreInstant score (mapOf inputs) l m a → numberIn a ≡ 0 → IsInstant score (answeredBy inputs l m a)
+  pub played-instant : {inputs : List ℕ} {l m : Lent} {a : ℕ} → RisingBelow (decode score .tokens) inputs → ScoreInstant score (mapOf inputs) l m a → numberIn a ≡ 0 → IsInstant score (answeredBy inputs l m a)
   played-instant {inputs} {l} {m} {a} r c n = subst (λ x. IsInstant score (answeredBy x l m a)) (tokens-back r) (accepted-instant c n)
 
   pub plays-linked : {s last : List ℕ} {lists : List (List ℕ)} {played : List Answered} → Rises score lists → Plays score s lists played last → Linked score s played last
@@ -71,7 +71,7 @@ module _ (score : List ℕ) where
         words : List ℕ
         words = entry (decode score) inputs a
 
-        rising : Rising (decode score .tokens) inputs
+        rising : RisingBelow (decode score .tokens) inputs
         rising = rises inputs (List·Memᴰ·head refl)
 
         before : Lent
@@ -87,7 +87,7 @@ module _ (score : List ℕ) where
         called = record { written = refl; answered = refl }
 
         follows : stateFault (sizes score .agents) (nextBytes s a) ≡ false
-        follows = numbered-fault (after a) (suc (instantNumber s)) (sizes score .agents) ∙ next-faultless score accepted s faultless inputs (rising-below rising)
+        follows = numbered-fault (after a) (suc (instantNumber s)) (sizes score .agents) ∙ next-faultless score accepted s faultless inputs (rising .below)
 
         answers : atLast s ≡ false → numberIn answer ≡ 0
         answers below = settled-instant called (record {
@@ -100,7 +100,7 @@ module _ (score : List ℕ) where
             scratch-long = length-replicate {A = ℕ} scratchBytes 0;
           });
           faultless = faultless;
-          known = known-input score (mapOf inputs) (subst⁻¹ (Known score) (tokens-back rising) (rising-below rising));
+          known = known-input score (mapOf inputs) (subst⁻¹ (Known score) (tokens-back rising) (rising .below));
           below = below;
         })
 

@@ -27,9 +27,8 @@ use Rattle.form.specs.declared.Form.{Form}
 use Rattle.form.specs.declared.Form.the-variants.{Good, Bytes, Word}
 use Rattle.form.specs.Form.{formOf}
 use Rattle.parts.specs.Instants.{inputLists}
-use Rattle.journal.specs.History.{entry, Rising}
+use Rattle.journal.specs.History.{entry, RisingBelow}
 use Rattle.journal.proofs.Forms.{good-inputs}
-use Rattle.journal.proofs.Rising.{rising-below}
 use Rattle.history.specs.declared.Reply.{Reply}
 use Rattle.history.specs.declared.Reply.the-variants.{Score as Turned, Lengths, State, Bytes as NoWords, Word as Against}
 use Rattle.history.specs.AnswerIn.{answerIn}
@@ -43,7 +42,7 @@ use Rattle.answer.proofs.Replies.{reply-number}
 use Rattle.demands.proofs.Accepted.{given, next-faultless}
 
 abbrev pub Rises : List ℕ → List (List ℕ) → Type 0
-Rises score lists = (l : List ℕ) → List·Memᴰ l lists → Rising (decode score .tokens) l
+Rises score lists = (l : List ℕ) → List·Memᴰ l lists → RisingBelow (decode score .tokens) l
 
 pub record Fit (score inputs : List ℕ) (l : Lent) : Type 0 where
   pub accepted : verdicts.numberOf (check.verdict score) ≡ 0
@@ -74,7 +73,7 @@ module _ (score : List ℕ) (accepted : verdicts.numberOf (check.verdict score) 
       words = entry (decode score) inputs a
 
       next : stateFault (sizes score .agents) (asBytes (after a)) ≡ false
-      next = next-faultless score accepted s faultless inputs (rising-below (rises inputs (List·Memᴰ·head refl)))
+      next = next-faultless score accepted s faultless inputs (rises inputs (List·Memᴰ·head refl) .below)
 
       go : (last fits : Bool) (r : Ran) → (r .stop ≡ Next → ⊥) → unlessStopped (cond last Last (cond fits Not Room)) s words r .stop ≡ Next → ⊥
       go true fits r h e = let z : _≡_ {A = ℕ} 0 1 = cc in omega arith
@@ -106,5 +105,5 @@ module _ (score inputs : List ℕ) (l : Lent) where
       (λ right. let long = eqb-true (length (l .state)) stateBytes (not-false (eqb (length (l .state)) stateBytes) (first-false (not (eqb (length (l .state)) stateBytes)) (not (eqb (length (l .scratch)) scratchBytes)) right)) in
       by-test (Outcome score inputs l) (stateFault (sizes score .agents) (l .state)) (λ e. refuses State (λ z. omega arith) (λ z. omega arith) (λ z. omega arith) (λ z. omega arith))
       (λ faultless. formed (formOf false (sizes score .tokens) inputs) refl
-      (λ good. let rising : Rises score (inputLists inputs) = λ x m. subst (λ t. Rising t x) (sym (decode-tokens score)) (good-inputs false (sizes score .tokens) inputs good x m) in
+      (λ good. let rising : Rises score (inputLists inputs) = λ x m. subst (λ t. RisingBelow t x) (sym (decode-tokens score)) (good-inputs false (sizes score .tokens) inputs good x m) in
       runs (record { accepted = accepted; long = long; faultless = faultless; rising = rising }) (never-next score accepted (inputLists inputs) rising (l .state) faultless (length (l .journal)))))))

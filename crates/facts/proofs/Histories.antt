@@ -14,7 +14,7 @@ use Rattle.bits.specs.Bits.{bytesOf}
 use Rattle.lent.specs.States.{SameState}
 use Rattle.lent.proofs.SameState.{state-refl, answer-same, after-same}
 use Rattle.parts.specs.Instants.{inputLists}
-use Rattle.journal.specs.History.{instantWords, entry, history, Rising, IsHistory}
+use Rattle.journal.specs.History.{instantWords, entry, history, RisingBelow, IsHistory}
 use Rattle.journal.proofs.Histories.{entry-same, history-inputs}
 use Rattle.facts.proofs.OneMore.{OneMore}
 use Rattle.facts.proofs.Told.{Told, answer-told, output-kept, start-kept, tokens-kept}
@@ -39,7 +39,7 @@ module _ {t : ℕ} {sc sc′ : Score} (x : OneMore t sc sc′) where
       let starts = subst (SameState start) (start-kept x) (state-refl start) in
       record {
         inputs = h .inputs;
-        rising = λ l m. subst (λ n. Rising n l) (tokens-kept x) (h .rising l m);
+        rising = λ l m. subst (λ n. RisingBelow n l) (tokens-kept x) (h .rising l m);
         instants = h .instants;
         is = h .is ∙ ap bytesOf (history-told (h .inputs) start (startState sc′) starts (subst (λ l. Within (Told t) (answers sc start l)) own told));
       }

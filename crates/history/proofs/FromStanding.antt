@@ -31,20 +31,20 @@ use Rattle.lent.specs.States.{stateOf, asBytes, LawfulState}
 use Rattle.standing.specs.declared.Standing.{Standing}
 use Rattle.standing.specs.Standing.{stateIn}
 use Rattle.standing.proofs.Inside.{Inside, answer-inside, flags-known}
-use Rattle.journal.specs.History.{instantWords, entry, Rising}
-use Rattle.journal.proofs.Rising.{rising-below, rising-set, output-rising}
+use Rattle.journal.specs.History.{instantWords, entry, RisingBelow}
+use Rattle.journal.proofs.Rising.{rising-set, output-rising}
 use Rattle.history.specs.declared.Step.{Step}
 use Rattle.history.specs.Stepped.{Stepped}
 use Rattle.history.proofs.Steps.{stands-after, stands-lawful, output-so, never-unlawful}
 
 -- ---- what is told to an instant
 
-module _ (tokens : ℕ) (few : tokens ≤ 256) {told : List Bool} {inputs : List ℕ} (read : told ≡ flagsOf 256 inputs) (rising : Rising tokens inputs) where
+module _ (tokens : ℕ) (few : tokens ≤ 256) {told : List Bool} {inputs : List ℕ} (read : told ≡ flagsOf 256 inputs) (rising : RisingBelow tokens inputs) where
   pub told-set : setOf told ≡ inputs
   told-set = ap setOf read ∙ rising-set 256 tokens inputs few rising
 
   pub told-known : (t : ℕ) → tokens ≤ t → getD told t false ≡ false
-  told-known t le = ap (λ l. getD l t false) read ∙ flags-known 256 tokens inputs (rising-below rising) t le
+  told-known t le = ap (λ l. getD l t false) read ∙ flags-known 256 tokens inputs (rising .below) t le
 
 told-below : (n : ℕ) (told : List Bool) → ((t : ℕ) → n ≤ t → getD told t false ≡ false) → (t : ℕ) → List·Memᴰ t (setOf told) → t < n
 told-below n told known t m = go (decLt t n)

@@ -18,7 +18,7 @@ use Rattle.form.specs.Form.{isInstant, formOf}
 use Rattle.parts.specs.Instants.{instantsIn, inputsIn, inputLists}
 use Rattle.parts.specs.Parts.{span, partFrom, partAt}
 use Rattle.parts.proofs.Parts.{instants-step, part-starts, part-length, part-on, span-fits, span-positive, starts-some, good-starts, good-four, instants-end}
-use Rattle.journal.specs.History.{Rising}
+use Rattle.journal.specs.History.{RisingBelow}
 use Rattle.journal.proofs.Forms.{good-inputs}
 
 pub record Reading (tokens : ℕ) (bytes : List ℕ) (at : ℕ) : Type 0 where
@@ -26,7 +26,7 @@ pub record Reading (tokens : ℕ) (bytes : List ℕ) (at : ℕ) : Type 0 where
   pub within : at ≤ length bytes
   pub four : length bytes % 4 ≡ 0
   pub starts : (words (drop at bytes) ≡ []) ⊎ (isInstant (wordAt (drop at bytes) 0) ≡ true)
-  pub rising : (l : List ℕ) → List·Memᴰ l (inputLists (drop at bytes)) → Rising tokens l
+  pub rising : (l : List ℕ) → List·Memᴰ l (inputLists (drop at bytes)) → RisingBelow tokens l
 
 pub reading-none : (journal : Bool) (tokens : ℕ) (bytes : List ℕ) → formOf journal tokens bytes ≡ Good → Reading tokens bytes 0
 reading-none journal tokens bytes good =
@@ -37,7 +37,7 @@ pub record Next (tokens : ℕ) (bytes : List ℕ) (at : ℕ) (part : List ℕ) :
   pub fits : at + length part ≤ length bytes
   pub instants : instantsIn (words (drop at bytes)) ≡ words part ∷ instantsIn (words (drop (at + length part) bytes))
   pub lists : inputLists (drop at bytes) ≡ inputsIn (words part) ∷ inputLists (drop (at + length part) bytes)
-  pub told : Rising tokens (inputsIn (words part))
+  pub told : RisingBelow tokens (inputsIn (words part))
   pub follows : Reading tokens bytes (at + length part)
 
 pub reading-next : (tokens : ℕ) (bytes : List ℕ) (at : ℕ) → Reading tokens bytes at → at < length bytes → Next tokens bytes at (partAt Good bytes at)

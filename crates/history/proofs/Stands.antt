@@ -23,8 +23,7 @@ use Rattle.lent.proofs.Round.{asBytes-same, lawful-bytes}
 use Rattle.lent.proofs.Numbered.{numbered-same, numbered-round}
 use Rattle.lent.proofs.SameState.{answer-same, after-same}
 use Rattle.standing.proofs.Inside.{answer-inside, after-lawful}
-use Rattle.journal.specs.History.{entry, Rising}
-use Rattle.journal.proofs.Rising.{rising-below}
+use Rattle.journal.specs.History.{entry, RisingBelow}
 use Rattle.journal.proofs.Histories.{entry-same}
 use Rattle.history.specs.AnswerIn.{answerIn}
 
@@ -52,9 +51,9 @@ module _ (score : List ℕ) (law : Lawful (decode score)) (counted : length (dec
     pub after-state : SameState (after (answerIn score state inputs)) (after (answer (decode score) st inputs))
     after-state = after-same (answerIn score state inputs) (answer (decode score) st inputs) instant-same
 
-    module _ (rising : Rising (decode score .tokens) inputs) where
+    module _ (rising : RisingBelow (decode score .tokens) inputs) where
       pub next-lawful : LawfulState (length (decode score .agents)) (after (answer (decode score) st inputs))
-      next-lawful = after-lawful (decode score) (answer (decode score) st inputs) (length (decode score .agents)) (omega arith) (answer-inside (decode score) st inputs law (stands .lawful) (rising-below rising))
+      next-lawful = after-lawful (decode score) (answer (decode score) st inputs) (length (decode score .agents)) (omega arith) (answer-inside (decode score) st inputs law (stands .lawful) (rising .below))
 
       pub instant-stands : Stands (nextBytes state (answerIn score state inputs)) (after (answer (decode score) st inputs))
       instant-stands =

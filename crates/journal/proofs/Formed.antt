@@ -13,6 +13,7 @@ use native.Mathlib.Omega.{arith}
 use borrow.Author.Tests.{eq-eqb, ne-eqb, lt-ltb}
 use lib.Dec.{eqb}
 use lib.ListN.{length, getD}
+use Rattle.laws.specs.Rising.{Rising, one, more}
 use Rattle.laws.proofs.Sets.{Within, on-cons, on-append, on-map}
 use Rattle.words.specs.Word.{words, field, kind}
 use Rattle.format.specs.Format.{isWord}
@@ -22,8 +23,7 @@ use Rattle.lent.proofs.Round.{words-bytes}
 use Rattle.form.specs.declared.Form.the-variants.{Good}
 use Rattle.form.specs.Form.{tokenOf, statusOf, isInstant, rises, mayFollow, firstAgainst, formOf}
 use Rattle.parts.specs.Instants.{upTo, instantsIn, tokensOf, inputsIn}
-use Rattle.journal.specs.History.{instantWord, inputWord, outputWord, instantWords, Rising, one, more}
-use Rattle.journal.proofs.Rising.{rising-below}
+use Rattle.journal.specs.History.{instantWord, inputWord, outputWord, instantWords, RisingBelow}
 use Rattle.journal.proofs.Forms.{wordsOf, of-another, upTo-instant, upTo-another, WellFormed, good-whole, good-words, good-instants}
 
 -- ---- a word with a token or a status
@@ -69,10 +69,10 @@ passed k i (t ∷ l) ws hi h n =
     (passed k i l ws hi (λ u m. h u (List·Memᴰ·tail m)) n)
 
 module _ (T : ℕ) (few : T ≤ 256) where
-  small : {l : List ℕ} → Rising T l → Within (λ t. t < 2 ^ 8) l
-  small r t m = let h : t < T = rising-below r t m in omega arith
+  small : {l : List ℕ} → RisingBelow T l → Within (λ t. t < 2 ^ 8) l
+  small r t m = let h : t < T = r .below t m in omega arith
 
-  module _ (s : ℕ) (inputs outputs : List ℕ) (hs : s < 3) (hi : Rising T inputs) (ho : Rising T outputs) where
+  module _ (s : ℕ) (inputs outputs : List ℕ) (hs : s < 3) (hi : RisingBelow T inputs) (ho : RisingBelow T outputs) where
     words-read : (k : ℕ) → (k ≡ 12 → ⊥) → tokensOf k (instantWords s inputs outputs) ≡ map tokenOf (wordsOf k (map inputWord inputs ++ (map outputWord outputs ++ [])))
     unfolding tokensOf instantWords
     words-read k n =
@@ -101,8 +101,8 @@ module _ (T : ℕ) (few : T ≤ 256) where
         record {
           formed = record {
             is = sym (ap₂ (λ x y. x y) (ap₂ instantWords read words-inputs) words-outputs);
-            inputs = subst⁻¹ (Rising T) words-inputs hi;
-            outputs = subst⁻¹ (Rising T) words-outputs ho;
+            inputs = subst⁻¹ (RisingBelow T) words-inputs hi;
+            outputs = subst⁻¹ (RisingBelow T) words-outputs ho;
           };
           status = subst⁻¹ (λ x. x < cond journal 3 1) read h;
           silent = λ e. words-outputs ∙ silent e;
@@ -131,42 +131,44 @@ module _ (journal : Bool) (T : ℕ) (few : T ≤ 256) where
     output-follows j e = rw (e, j, word-kind 14 t (omega arith) (omega arith), word-clear 14 t (omega arith), word-token 14 t (omega arith), lt-ltb t T h)
 
   module _ (rest : List ℕ) (anew : (k last : ℕ) → firstAgainst journal T k last rest ≡ Good) where
-    outputs-after : (k u : ℕ) {l : List ℕ} → journal ≡ true → Rising T (u ∷ l) → firstAgainst journal T k (outputWord u) (map outputWord l ++ rest) ≡ Good
-    outputs-after k u j (one h) = anew k (outputWord u)
-    outputs-after k u j (more {u = t} {l = l} lt r) =
-        let ht : t < T = rising-below r t (List·Memᴰ·head refl) in
+    outputs-after : (k u : ℕ) {l : List ℕ} → journal ≡ true → Rising (u ∷ l) → Within (λ t. t < T) (u ∷ l) → firstAgainst journal T k (outputWord u) (map outputWord l ++ rest) ≡ Good
+    outputs-after k u j one below = anew k (outputWord u)
+    outputs-after k u j (more {m = t} {l = l} lt r) below =
+        let ht : t < T = below t (List·Memᴰ·tail (List·Memᴰ·head refl)) in
         step-good k (outputWord u) (outputWord t) (map outputWord l ++ rest)
         (output-follows (outputWord u) t ht j (rw (word-kind 14 u (omega arith) (omega arith), word-token 14 u (omega arith), word-token 14 t (omega arith), lt-ltb u t lt)))
-        (outputs-after (suc k) t j r)
+        (outputs-after (suc k) t j r (λ x m. below x (List·Memᴰ·tail m)))
 
-    outputs-good : (k last : ℕ) (l : List ℕ) → (journal ≡ false → l ≡ []) → Rising T l → (isInstant last || eqb (kind last) 13) ≡ true → firstAgainst journal T k last (map outputWord l ++ rest) ≡ Good
+    outputs-good : (k last : ℕ) (l : List ℕ) → (journal ≡ false → l ≡ []) → RisingBelow T l → (isInstant last || eqb (kind last) 13) ≡ true → firstAgainst journal T k last (map outputWord l ++ rest) ≡ Good
     outputs-good k last [] silent r e = anew k last
     outputs-good k last (t ∷ l) silent r e =
-        let ht : t < T = rising-below r t (List·Memᴰ·head refl) in
+        let ht : t < T = r .below t (List·Memᴰ·head refl) in
         let speaks : journal ≡ true = go journal refl in
-        step-good k last (outputWord t) (map outputWord l ++ rest) (output-follows last t ht speaks (rw e)) (outputs-after (suc k) t speaks r)
+        step-good k last (outputWord t) (map outputWord l ++ rest) (output-follows last t ht speaks (rw e)) (outputs-after (suc k) t speaks (r .rises) (r .below))
       where
         go : (b : Bool) → journal ≡ b → journal ≡ true
         go true j = j
         go false j = absurd (let z : t ∷ l ≡ [] = silent j in let y : _≡_ {A = ℕ} 0 1 = cc in omega arith)
 
-    module _ (outputs : List ℕ) (silent : journal ≡ false → outputs ≡ []) (ho : Rising T outputs) where
-      inputs-after : (k u : ℕ) {l : List ℕ} → Rising T (u ∷ l) → firstAgainst journal T k (inputWord u) (map inputWord l ++ (map outputWord outputs ++ rest)) ≡ Good
-      inputs-after k u (one h) = outputs-good k (inputWord u) outputs silent ho (rw (word-kind 13 u (omega arith) (omega arith)))
-      inputs-after k u (more {u = t} {l = l} lt r) =
-          let ht : t < T = rising-below r t (List·Memᴰ·head refl) in
+    module _ (outputs : List ℕ) (silent : journal ≡ false → outputs ≡ []) (ho : RisingBelow T outputs) where
+      inputs-after : (k u : ℕ) {l : List ℕ} → Rising (u ∷ l) → Within (λ t. t < T) (u ∷ l) → firstAgainst journal T k (inputWord u) (map inputWord l ++ (map outputWord outputs ++ rest)) ≡ Good
+      inputs-after k u one below =
+          let hu : u < T = below u (List·Memᴰ·head refl) in
+          outputs-good k (inputWord u) outputs silent ho (rw (word-kind 13 u (omega arith) (omega arith)))
+      inputs-after k u (more {m = t} {l = l} lt r) below =
+          let ht : t < T = below t (List·Memᴰ·tail (List·Memᴰ·head refl)) in
           step-good k (inputWord u) (inputWord t) (map inputWord l ++ (map outputWord outputs ++ rest))
           (input-follows (inputWord u) t ht (rw (word-kind 13 u (omega arith) (omega arith), word-token 13 u (omega arith), word-token 13 t (omega arith), lt-ltb u t lt)))
-          (inputs-after (suc k) t r)
+          (inputs-after (suc k) t r (λ x m. below x (List·Memᴰ·tail m)))
 
-      inputs-good : (k s : ℕ) (l : List ℕ) → s < 3 → Rising T l → firstAgainst journal T k (instantWord s) (map inputWord l ++ (map outputWord outputs ++ rest)) ≡ Good
+      inputs-good : (k s : ℕ) (l : List ℕ) → s < 3 → RisingBelow T l → firstAgainst journal T k (instantWord s) (map inputWord l ++ (map outputWord outputs ++ rest)) ≡ Good
       inputs-good k s [] hs r = outputs-good k (instantWord s) outputs silent ho (rw (word-kind 12 s (omega arith) (omega arith)))
       inputs-good k s (t ∷ l) hs r =
-          let ht : t < T = rising-below r t (List·Memᴰ·head refl) in
+          let ht : t < T = r .below t (List·Memᴰ·head refl) in
           step-good k (instantWord s) (inputWord t) (map inputWord l ++ (map outputWord outputs ++ rest))
-          (input-follows (instantWord s) t ht (rw (word-kind 12 s (omega arith) (omega arith)))) (inputs-after (suc k) t r)
+          (input-follows (instantWord s) t ht (rw (word-kind 12 s (omega arith) (omega arith)))) (inputs-after (suc k) t (r .rises) (r .below))
 
-      instant-good : (k last s : ℕ) (inputs : List ℕ) → s < cond journal 3 1 → Rising T inputs → firstAgainst journal T k last (instantWords s inputs outputs ++ rest) ≡ Good
+      instant-good : (k last s : ℕ) (inputs : List ℕ) → s < cond journal 3 1 → RisingBelow T inputs → firstAgainst journal T k last (instantWords s inputs outputs ++ rest) ≡ Good
       unfolding instantWords
       instant-good k last s inputs hs r =
           step-good k last (instantWord s) ((map inputWord inputs ++ map outputWord outputs) ++ rest) (instant-follows last s hs)
@@ -199,7 +201,7 @@ flatten-within (e ∷ es) h = on-append e (h e (List·Memᴰ·head refl)) (flatt
 module _ (journal : Bool) (T : ℕ) (few : T ≤ 256) where
   -- what holds of every word with a small token holds of those after the instant word
   on-tokens : (P : ℕ → Type 0) {inputs outputs : List ℕ} → ((t : ℕ) → t < 2 ^ 8 → P (inputWord t)) → ((t : ℕ) → t < 2 ^ 8 → P (outputWord t)) →
-      Rising T inputs → Rising T outputs → Within P (map inputWord inputs ++ map outputWord outputs)
+      RisingBelow T inputs → RisingBelow T outputs → Within P (map inputWord inputs ++ map outputWord outputs)
   on-tokens P {inputs} {outputs} f g hi ho =
       on-append (map inputWord inputs) (on-map P inputWord inputs (λ t m. f t (small T few hi t m))) (on-map P outputWord outputs (λ t m. g t (small T few ho t m)))
 
@@ -214,7 +216,7 @@ module _ (journal : Bool) (T : ℕ) (few : T ≤ 256) where
     starts : upTo (e ++ flatten es) ≡ []
     instants : instantsIn (e ++ flatten es) ≡ e ∷ es
 
-  words-apart : (s : ℕ) (inputs outputs : List ℕ) (es : List (List ℕ)) → s < 3 → Rising T inputs → Rising T outputs → upTo (flatten es) ≡ [] → instantsIn (flatten es) ≡ es → Apart (instantWords s inputs outputs) es
+  words-apart : (s : ℕ) (inputs outputs : List ℕ) (es : List (List ℕ)) → s < 3 → RisingBelow T inputs → RisingBelow T outputs → upTo (flatten es) ≡ [] → instantsIn (flatten es) ≡ es → Apart (instantWords s inputs outputs) es
   unfolding instantWords instantsIn
   words-apart s inputs outputs es hs hi ho u i =
       let is : kind (instantWord s) ≡ 12 = word-kind 12 s (omega arith) (omega arith) in

@@ -31,8 +31,9 @@ use Rattle.bits.specs.Bits.{bytesOf}
 use Rattle.form.specs.declared.Form.the-variants.{Good, Bytes, Word}
 use Rattle.form.specs.Form.{tokenOf, statusOf, isInstant, rises, mayFollow, firstAgainst, formOf}
 use Rattle.parts.specs.Instants.{upTo, instantsIn, tokensOf, inputsIn, inputLists}
-use Rattle.journal.specs.History.{instantWord, instantWords, Rising, none, one, more}
+use Rattle.journal.specs.History.{instantWord, instantWords, RisingBelow}
 use Rattle.journal.specs.Formed.{Formed}
+use Rattle.journal.proofs.Rising.{none-rising, one-rising, more-rising}
 
 abbrev pub wordsOf : ℕ → List ℕ → List ℕ
 wordsOf k ws = keep (λ w. eqb (kind w) k) ws
@@ -118,8 +119,8 @@ data After (T last : ℕ) : List ℕ → List ℕ → Type 0 where
   output : kind last ≡ 14 → tokenOf last < T → After T last [] (tokenOf last ∷ [])
 
 record Part (journal : Bool) (T : ℕ) (p q ws : List ℕ) : Type 0 where
-  inputs : Rising T (p ++ map tokenOf (wordsOf 13 ws))
-  outputs : Rising T (q ++ map tokenOf (wordsOf 14 ws))
+  inputs : RisingBelow T (p ++ map tokenOf (wordsOf 13 ws))
+  outputs : RisingBelow T (q ++ map tokenOf (wordsOf 14 ws))
   in-order : wordsOf 13 ws ++ wordsOf 14 ws ≡ ws
   late : (t : ℕ) → q ≡ t ∷ [] → wordsOf 13 ws ≡ []
   silent : journal ≡ false → wordsOf 14 ws ≡ []
@@ -127,9 +128,9 @@ record Part (journal : Bool) (T : ℕ) (p q ws : List ℕ) : Type 0 where
 
 module _ (journal : Bool) (T : ℕ) where
   nil-part : {last : ℕ} {p q : List ℕ} → After T last p q → Part journal T p q []
-  nil-part (instant e) = record { inputs = none; outputs = none; in-order = refl; late = λ t z. refl; silent = λ z. refl; cleared = λ w m. elim m [ ] }
-  nil-part (input e h) = record { inputs = one h; outputs = none; in-order = refl; late = λ t z. refl; silent = λ z. refl; cleared = λ w m. elim m [ ] }
-  nil-part (output e h) = record { inputs = none; outputs = one h; in-order = refl; late = λ t z. refl; silent = λ z. refl; cleared = λ w m. elim m [ ] }
+  nil-part (instant e) = record { inputs = none-rising; outputs = none-rising; in-order = refl; late = λ t z. refl; silent = λ z. refl; cleared = λ w m. elim m [ ] }
+  nil-part (input e h) = record { inputs = one-rising h; outputs = none-rising; in-order = refl; late = λ t z. refl; silent = λ z. refl; cleared = λ w m. elim m [ ] }
+  nil-part (output e h) = record { inputs = none-rising; outputs = one-rising h; in-order = refl; late = λ t z. refl; silent = λ z. refl; cleared = λ w m. elim m [ ] }
 
   module _ (last w : ℕ) (ws : List ℕ) where
     -- an input word before words of an instant
@@ -139,18 +140,18 @@ module _ (journal : Bool) (T : ℕ) where
         let other : wordsOf 14 (w ∷ ws) ≡ wordsOf 14 ws = of-another 14 w ws (λ e. omega (arith, f .kind-is)) in
         let s = sorted a o in
         record {
-          inputs = subst⁻¹ (λ l. Rising T (p ++ map tokenOf l)) here (s .0);
-          outputs = subst⁻¹ (λ l. Rising T (q ++ map tokenOf l)) other (subst⁻¹ (λ l. Rising T (l ++ map tokenOf (wordsOf 14 ws))) (s .1) (r .outputs));
+          inputs = subst⁻¹ (λ l. RisingBelow T (p ++ map tokenOf l)) here (s .0);
+          outputs = subst⁻¹ (λ l. RisingBelow T (q ++ map tokenOf l)) other (subst⁻¹ (λ l. RisingBelow T (l ++ map tokenOf (wordsOf 14 ws))) (s .1) (r .outputs));
           in-order = ap₂ _++_ here other ∙ ap (λ l. w ∷ l) (r .in-order);
           late = λ t e. absurd (let z : _≡_ {A = List ℕ} [] (t ∷ []) = sym (s .1) ∙ e in let y : _≡_ {A = ℕ} 0 1 = cc in omega arith);
           silent = λ e. other ∙ r .silent e;
           cleared = on-cons (f .is-clear) (r .cleared);
         }
       where
-        sorted : {p q : List ℕ} → After T last p q → (kind last ≡ 12) ⊎ Rises 13 last w → Rising T (p ++ map tokenOf (w ∷ wordsOf 13 ws)) × (q ≡ [])
+        sorted : {p q : List ℕ} → After T last p q → (kind last ≡ 12) ⊎ Rises 13 last w → RisingBelow T (p ++ map tokenOf (w ∷ wordsOf 13 ws)) × (q ≡ [])
         sorted (instant e) o = (r .inputs, refl)
         sorted (input e h) (inl z) = absurd (omega arith)
-        sorted (input e h) (inr s) = (more (s .higher) (r .inputs), refl)
+        sorted (input e h) (inr s) = (more-rising (s .higher) (r .inputs), refl)
         sorted (output e h) (inl z) = absurd (omega arith)
         sorted (output e h) (inr s) = absurd (omega (arith, s .kind-is))
 
@@ -162,20 +163,20 @@ module _ (journal : Bool) (T : ℕ) where
         let other : wordsOf 13 (w ∷ ws) ≡ [] = of-another 13 w ws (λ e. omega (arith, f .kind-is)) ∙ nothing in
         let s = sorted a o in
         record {
-          inputs = subst⁻¹ (λ l. Rising T (p ++ map tokenOf l)) other (nil-part a .inputs);
-          outputs = subst⁻¹ (λ l. Rising T (q ++ map tokenOf l)) here s;
+          inputs = subst⁻¹ (λ l. RisingBelow T (p ++ map tokenOf l)) other (nil-part a .inputs);
+          outputs = subst⁻¹ (λ l. RisingBelow T (q ++ map tokenOf l)) here s;
           in-order = ap₂ _++_ other here ∙ ap (λ l. w ∷ l) (ap (λ l. l ++ wordsOf 14 ws) (sym nothing) ∙ r .in-order);
           late = λ t e. other;
           silent = λ e. absurd (true-is-false j e);
           cleared = on-cons (f .is-clear) (r .cleared);
         }
       where
-        sorted : {p q : List ℕ} → After T last p q → ((kind last ≡ 12) ⊎ (kind last ≡ 13)) ⊎ Rises 14 last w → Rising T (q ++ map tokenOf (w ∷ wordsOf 14 ws))
+        sorted : {p q : List ℕ} → After T last p q → ((kind last ≡ 12) ⊎ (kind last ≡ 13)) ⊎ Rises 14 last w → RisingBelow T (q ++ map tokenOf (w ∷ wordsOf 14 ws))
         sorted (instant e) o = r .outputs
         sorted (input e h) o = r .outputs
         sorted (output e h) (inl (inl z)) = absurd (omega arith)
         sorted (output e h) (inl (inr z)) = absurd (omega arith)
-        sorted (output e h) (inr s) = more (s .higher) (r .outputs)
+        sorted (output e h) (inr s) = more-rising (s .higher) (r .outputs)
 
   good-part : (ws : List ℕ) (k last : ℕ) {p q : List ℕ} → After T last p q → firstAgainst journal T k last ws ≡ Good → Part journal T p q (upTo ws)
   unfolding upTo
@@ -224,16 +225,16 @@ good-bytes journal T bytes = go (eqb (length bytes % 4) 0) refl
     go true e g = record { whole = eqb-true (length bytes % 4) 0 e; words-good = g }
     go false e g = absurd (let z : _≡_ {A = ℕ} 0 1 = cc in omega arith)
 
-led-inputs : {journal : Bool} {T : ℕ} {ws : List ℕ} → Led journal T ws → Rising T (inputsIn ws)
+led-inputs : {journal : Bool} {T : ℕ} {ws : List ℕ} → Led journal T ws → RisingBelow T (inputsIn ws)
 unfolding tokensOf
 led-inputs {journal} {T} {ws} l =
-    subst⁻¹ (λ x. Rising T (inputsIn x)) (l .is)
-    (subst⁻¹ (λ x. Rising T (map tokenOf x)) (of-another 13 (l .word) (l .rest) (λ e. omega (arith, l .form .kind-is))) (l .part .inputs))
+    subst⁻¹ (λ x. RisingBelow T (inputsIn x)) (l .is)
+    (subst⁻¹ (λ x. RisingBelow T (map tokenOf x)) (of-another 13 (l .word) (l .rest) (λ e. omega (arith, l .form .kind-is))) (l .part .inputs))
 
-pub good-inputs : (journal : Bool) (T : ℕ) (bytes : List ℕ) → formOf journal T bytes ≡ Good → (l : List ℕ) → List·Memᴰ l (inputLists bytes) → Rising T l
+pub good-inputs : (journal : Bool) (T : ℕ) (bytes : List ℕ) → formOf journal T bytes ≡ Good → (l : List ℕ) → List·Memᴰ l (inputLists bytes) → RisingBelow T l
 unfolding inputLists
 good-inputs journal T bytes g =
-    on-map (Rising T) inputsIn (instantsIn (words bytes)) (λ ws m. led-inputs (good-led journal T (words bytes) 0 0 (good-bytes journal T bytes g .words-good) ws m))
+    on-map (RisingBelow T) inputsIn (instantsIn (words bytes)) (λ ws m. led-inputs (good-led journal T (words bytes) 0 0 (good-bytes journal T bytes g .words-good) ws m))
 
 -- ---- the words themselves
 
@@ -283,8 +284,8 @@ led-formed {journal} {T} {ws} l = subst⁻¹ (λ x. Within (λ w. w < 2 ^ 32) x 
                 ap₂ _∷_ (sym (instant-rebuilt (l .word) (l .form) (small (l .word) (List·Memᴰ·head refl))))
                 (sym (ap₂ _++_ (kind-rebuilt 13 (l .rest) rest-small (p .cleared)) (kind-rebuilt 14 (l .rest) rest-small (p .cleared)) ∙ p .in-order))
                 ∙ sym (ap₂ (instantWords (statusOf (l .word))) ins outs);
-            inputs = subst⁻¹ (Rising T) ins (p .inputs);
-            outputs = subst⁻¹ (Rising T) outs (p .outputs);
+            inputs = subst⁻¹ (RisingBelow T) ins (p .inputs);
+            outputs = subst⁻¹ (RisingBelow T) outs (p .outputs);
           };
           status = l .status;
           silent = λ e. outs ∙ ap (map tokenOf) (p .silent e);

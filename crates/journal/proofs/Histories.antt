@@ -24,7 +24,7 @@ use Rattle.bits.specs.Bits.{bytesOf}
 use Rattle.form.specs.declared.Form.the-variants.{Good}
 use Rattle.form.specs.Form.{formOf}
 use Rattle.parts.specs.Instants.{instantsIn, inputsIn, inputLists}
-use Rattle.journal.specs.History.{instantWords, entry, history, Rising}
+use Rattle.journal.specs.History.{instantWords, entry, history, RisingBelow}
 use Rattle.journal.proofs.Rising.{output-rising}
 use Rattle.journal.proofs.Forms.{WellFormed}
 use Rattle.journal.proofs.Formed.{words-inputs, words-formed, formed-words, formed-good, formed-instants}
@@ -42,8 +42,8 @@ history-joined sc st [] = refl
 history-joined sc st (inputs ∷ more) = ap (λ l. entry sc inputs (answer sc st inputs) ++ l) (history-joined sc (after (answer sc st inputs)) more)
 
 module _ (sc : Score) (law : Lawful sc) where
-  module _ (st : State) (inputs : List ℕ) (rising : Rising (sc .tokens) inputs) where
-    outputs : (a : Answer) → Rising (sc .tokens) (output sc (a .status) (a .store))
+  module _ (st : State) (inputs : List ℕ) (rising : RisingBelow (sc .tokens) inputs) where
+    outputs : (a : Answer) → RisingBelow (sc .tokens) (output sc (a .status) (a .store))
     outputs a = output-rising sc (a .status) (a .store) (law .ports-ordered) (law .ports-known)
 
     pub entry-formed : WellFormed true (sc .tokens) (entry sc inputs (answer sc st inputs))
@@ -57,17 +57,17 @@ module _ (sc : Score) (law : Lawful sc) where
         let a = answer sc st inputs in
         words-inputs (sc .tokens) (law .most-tokens) (a .status) inputs (output sc (a .status) (a .store)) (answer-status sc st inputs) rising (outputs a)
 
-  entries-formed : (st : State) (inputs : List (List ℕ)) → Within (Rising (sc .tokens)) inputs → Within (WellFormed true (sc .tokens)) (entries sc st inputs)
+  entries-formed : (st : State) (inputs : List (List ℕ)) → Within (RisingBelow (sc .tokens)) inputs → Within (WellFormed true (sc .tokens)) (entries sc st inputs)
   unfolding entries
   entries-formed st [] h = λ x m. elim m [ ]
   entries-formed st (inputs ∷ more) h = on-cons (entry-formed st inputs (h inputs (List·Memᴰ·head refl))) (entries-formed (after (answer sc st inputs)) more (λ x m. h x (List·Memᴰ·tail m)))
 
-  entries-inputs : (st : State) (inputs : List (List ℕ)) → Within (Rising (sc .tokens)) inputs → map inputsIn (entries sc st inputs) ≡ inputs
+  entries-inputs : (st : State) (inputs : List (List ℕ)) → Within (RisingBelow (sc .tokens)) inputs → map inputsIn (entries sc st inputs) ≡ inputs
   unfolding entries
   entries-inputs st [] h = refl
   entries-inputs st (inputs ∷ more) h = ap₂ _∷_ (entry-inputs st inputs (h inputs (List·Memᴰ·head refl))) (entries-inputs (after (answer sc st inputs)) more (λ x m. h x (List·Memᴰ·tail m)))
 
-  module _ (st : State) (inputs : List (List ℕ)) (rising : (l : List ℕ) → List·Memᴰ l inputs → Rising (sc .tokens) l) where
+  module _ (st : State) (inputs : List (List ℕ)) (rising : (l : List ℕ) → List·Memᴰ l inputs → RisingBelow (sc .tokens) l) where
     pub history-good : formOf true (sc .tokens) (bytesOf (history sc st inputs)) ≡ Good
     history-good = subst⁻¹ (λ ws. formOf true (sc .tokens) (bytesOf ws) ≡ Good) (history-joined sc st inputs) (formed-good true (sc .tokens) (law .most-tokens) (entries sc st inputs) (entries-formed st inputs rising))
 

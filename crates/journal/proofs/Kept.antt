@@ -17,9 +17,10 @@ use lib.ListN.{length, getD, length-append}
 use Rattle.laws.specs.Sets.{below, keep}
 use Rattle.laws.proofs.Booleans.{true-is-false}
 use Rattle.laws.proofs.Sets.{on-keep, keep-kept, lt-below, keep-append}
+use Rattle.laws.proofs.Rising.{rising-unique}
 use Rattle.flags.specs.Flags.{setOf}
 use Rattle.flags.proofs.Flags.{flag-member, member-flag}
-use Rattle.journal.proofs.Rising.{rising-keep, rising-unique, flags-rising, below-rising}
+use Rattle.journal.proofs.Rising.{kept-rising, flags-rising}
 
 unfoldable pub kept : List Bool → ℕ → List ℕ
 kept flags t = keep (λ i. getD flags i false) (below t)
@@ -45,7 +46,7 @@ module _ (flags : List Bool) where
   module _ (T : ℕ) (h : (i : ℕ) → T ≤ i → getD flags i false ≡ false) where
     pub kept-all : kept flags T ≡ setOf flags
     unfolding kept
-    kept-all = rising-unique (rising-keep (λ i. getD flags i false) (below-rising T)) (flags-rising flags) (λ t. (
+    kept-all = rising-unique (kept-rising (λ i. getD flags i false) T .rises) (flags-rising flags .rises) (λ t. (
       λ m. flag-member flags (on-keep {P = λ i. getD flags i false ≡ true} (λ i. getD flags i false) (below T) (λ i k p. p) t m),
       λ m. by-cases (decLt t T)
           (λ l. keep-kept (λ i. getD flags i false) (lt-below T l) (member-flag flags m))

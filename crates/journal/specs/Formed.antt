@@ -6,9 +6,9 @@ use Prim.Native.Nat.{ℕ}
 use lib.ListN.{getD}
 use Rattle.form.specs.Form.{statusOf}
 use Rattle.parts.specs.Instants.{tokensOf, inputsIn}
-use Rattle.journal.specs.History.{instantWords, Rising}
+use Rattle.journal.specs.History.{instantWords, RisingBelow}
 
 pub record Formed (tokens : ℕ) (ws : List ℕ) : Type 0 where
   pub is : ws ≡ instantWords (statusOf (getD ws 0 0)) (inputsIn ws) (tokensOf 14 ws)
-  pub inputs : Rising tokens (inputsIn ws)
-  pub outputs : Rising tokens (tokensOf 14 ws)
+  pub inputs : RisingBelow tokens (inputsIn ws)
+  pub outputs : RisingBelow tokens (tokensOf 14 ws)

@@ -2,12 +2,13 @@
 --     instantWord, inputWord, outputWord
 --     entry          the words of one instant: its status, its inputs and what goes to the ports
 --     history        the words of the instants of a list, from a state on
---     Rising         tokens rise strictly and are below T: the inputs of an instant in a list or journal
+--     RisingBelow    tokens rise strictly and are below T: the inputs of an instant in a list or journal
 --     IsHistory      bytes are the journal of n instants from a state, for some inputs
 use mathlib.Core.Path.{_≡_}
 use mathlib.Core.List.{List, [], _∷_, _++_, map, List·Memᴰ}
 use Prim.Native.Nat.{ℕ, _+_, _*_, _^_, _<_}
 use lib.ListN.{length}
+use Rattle.laws.specs.Rising.{Rising}
 use Rattle.tcc.specs.Score.{Score}
 use Rattle.tcc.specs.Instant.{Answer, State, output, answer, after}
 use Rattle.bits.specs.Bits.{bytesOf}
@@ -31,13 +32,12 @@ unfoldable pub history : Score → State → List (List ℕ) → List ℕ
 history sc st [] = []
 history sc st (inputs ∷ more) = entry sc inputs (answer sc st inputs) ++ history sc (after (answer sc st inputs)) more
 
-pub data Rising (tokens : ℕ) : List ℕ → Type 0 where
-  none : Rising tokens []
-  one : {t : ℕ} → t < tokens → Rising tokens (t ∷ [])
-  more : {t u : ℕ} {l : List ℕ} → t < u → Rising tokens (u ∷ l) → Rising tokens (t ∷ u ∷ l)
+pub record RisingBelow (tokens : ℕ) (l : List ℕ) : Type 0 where
+  pub rises : Rising l
+  pub below : (t : ℕ) → List·Memᴰ t l → t < tokens
 
 pub record IsHistory (sc : Score) (st : State) (bytes : List ℕ) (n : ℕ) : Type 0 where
   pub inputs : List (List ℕ)
-  pub rising : (l : List ℕ) → List·Memᴰ l inputs → Rising (sc .tokens) l
+  pub rising : (l : List ℕ) → List·Memᴰ l inputs → RisingBelow (sc .tokens) l
   pub instants : length inputs ≡ n
   pub is : bytes ≡ bytesOf (history sc st inputs)

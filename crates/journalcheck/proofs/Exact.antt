@@ -18,7 +18,7 @@ use Rattle.format.specs.Decode.{sizes, decode}
 use Rattle.lent.specs.States.{instantNumber, nextBytes, lastNumber, atLast}
 use Rattle.lent.proofs.Numbered.{next-number}
 use Rattle.parts.specs.Instants.{inputsIn}
-use Rattle.journal.specs.History.{entry, Rising}
+use Rattle.journal.specs.History.{entry, RisingBelow}
 use Rattle.journal.proofs.Histories.{entry-inputs, entries}
 use Rattle.history.specs.declared.Reply.{Reply}
 use Rattle.history.specs.declared.Reply.the-variants.{Differs, Accepted}
@@ -37,7 +37,7 @@ same-equal (v ∷ vs) [] e = absurd (true-is-false e refl)
 same-equal (v ∷ vs) (w ∷ ws) e = let b = and-both (eqb v w) (same vs ws) e in ap₂ _∷_ (eqb-true v w (b .0)) (same-equal vs ws (b .1))
 
 module _ (score : List ℕ) (law : Lawful (decode score)) (counted : length (decode score .agents) ≡ sizes score .agents) where
-  pub check-entries : (lists : List (List ℕ)) → Within (Rising (decode score .tokens)) lists → (state : List ℕ) (st : State) → Stands score law counted state st → (read : ℕ) →
+  pub check-entries : (lists : List (List ℕ)) → Within (RisingBelow (decode score .tokens)) lists → (state : List ℕ) (st : State) → Stands score law counted state st → (read : ℕ) →
       instantNumber state + length lists ≤ lastNumber → checkFrom score state read (entries (decode score) st lists) ≡ Accepted (read + length lists)
   unfolding checkFrom entries
   check-entries [] rising state st stands read room = ap Accepted (omega arith)
@@ -49,7 +49,7 @@ module _ (score : List ℕ) (law : Lawful (decode score)) (counted : length (dec
       rw (entry-inputs (decode score) law st inputs h, instant-lawful score law counted stands inputs h, ne-eqb (instantNumber state) lastNumber (λ e. omega arith), instant-entry score law counted stands inputs, same-itself (entry (decode score) inputs b))
       (rest ∙ ap Accepted (omega arith))
 
-  pub check-exact : (instants : List (List ℕ)) → Within (λ ws. Rising (decode score .tokens) (inputsIn ws)) instants → (state : List ℕ) (st : State) → Stands score law counted state st → (read n : ℕ) →
+  pub check-exact : (instants : List (List ℕ)) → Within (λ ws. RisingBelow (decode score .tokens) (inputsIn ws)) instants → (state : List ℕ) (st : State) → Stands score law counted state st → (read n : ℕ) →
       instantNumber state ≤ lastNumber → checkFrom score state read instants ≡ Accepted n →
       (instants ≡ entries (decode score) st (map inputsIn instants)) × (read + length instants ≡ n) × (instantNumber state + length instants ≤ lastNumber)
   unfolding checkFrom entries

@@ -19,9 +19,9 @@ use Rattle.flags.specs.Flags.{setOf, flagsOf}
 use Rattle.flags.proofs.Flags.{flags-settled}
 use Rattle.form.specs.Form.{statusOf}
 use Rattle.parts.specs.Instants.{tokensOf, inputsIn}
-use Rattle.journal.specs.History.{instantWords, Rising}
+use Rattle.journal.specs.History.{instantWords, RisingBelow}
 use Rattle.journal.specs.Formed.{Formed}
-use Rattle.journal.proofs.Rising.{rising-below, rising-within, rising-set, flags-rising}
+use Rattle.journal.proofs.Rising.{rising-within, rising-set, flags-rising}
 use Rattle.journal.proofs.Formed.{words-outputs}
 use Rattle.journalcheck.specs.Check.{same}
 use Rattle.journalcheck.proofs.Exact.{same-itself, same-equal}
@@ -67,8 +67,8 @@ module _ (a b : List Bool) where
 pub formed-wide : (T : ℕ) {ws : List ℕ} → T ≤ 256 → Formed T ws → Formed 256 ws
 formed-wide T few f = record {
   is = f .is;
-  inputs = rising-within (f .inputs) (λ t m. let h : t < T = rising-below (f .inputs) t m in omega arith);
-  outputs = rising-within (f .outputs) (λ t m. let h : t < T = rising-below (f .outputs) t m in omega arith);
+  inputs = rising-within (f .inputs) (λ t m. let h : t < T = f .inputs .below t m in omega arith);
+  outputs = rising-within (f .outputs) (λ t m. let h : t < T = f .outputs .below t m in omega arith);
 }
 
 status-back : (s : ℕ) (inputs outputs : List ℕ) → s < 3 → statusOf (getD (instantWords s inputs outputs) 0 0) ≡ s
@@ -79,8 +79,8 @@ module _ (ws : List ℕ) (f : Formed 256 ws) (status : ℕ) (small : status < 3)
   abbrev written : List ℕ
   written = instantWords status (inputsIn ws) (setOf out)
 
-  out-rising : Rising 256 (setOf out)
-  out-rising = rising-within (flags-rising out) (λ t m. let h : t < length out = rising-below (flags-rising out) t m in omega arith)
+  out-rising : RisingBelow 256 (setOf out)
+  out-rising = rising-within (flags-rising out) (λ t m. let h : t < length out = flags-rising out .below t m in omega arith)
 
   -- what equal words have in common
   status-same : ws ≡ written → statusOf (getD ws 0 0) ≡ status

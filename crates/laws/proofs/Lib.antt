@@ -3,3 +3,4 @@ pub mod Booleans
 pub mod Counted
 pub mod Lists
 pub mod Sets
+pub mod Rising

@@ -1,10 +1,8 @@
--- Strictly rising lists of numbers.
+-- Numbers put into a rising list, and where its members stand.
 --     insert-rising, insert-member, member-insert, insert-kept      what inserting a number keeps and adds
 --     insert-present, insert-longer         a number that is there adds nothing; another makes the list longer by one
 --     insert-all-rising, insert-all-member, member-insert-all       the same of several
---     rising-same                           two with the same members are equal
 --     rising-among                          one among the other is no longer
---     keep-rising                           what a test keeps rises
 --     index-below, index-at, at-index       where a member stands, and what stands there
 --     index-order                           a lower member stands before
 use mathlib.Core.Path.{_≡_, refl, sym, ap}
@@ -17,37 +15,13 @@ use native.Mathlib.Omega.{arith}
 use borrow.Author.Tests.{ltb-true, ltb-false, eqb-true, eqb-false, lt-ltb, le-ltb, eq-eqb, ne-eqb}
 use lib.Dec.{eqb, ltb}
 use lib.ListN.{length, getD}
-use Rattle.laws.specs.Sets.{Same, keep}
+use Rattle.laws.specs.Sets.{keep}
+use Rattle.laws.specs.Rising.{Rising, one, more}
 use Rattle.laws.proofs.Booleans.{by-test, either}
 use Rattle.laws.proofs.Lists.{entry-member}
 use Rattle.laws.proofs.Sets.{Within, Among, on-cons, keep-kept, keep-few}
-use Rattle.journal.specs.History.{Rising as Bounded, none as bounded-none, one as bounded-one, more as bounded-more}
-use Rattle.journal.proofs.Rising.{rising-above, rising-keep, rising-unique}
-use Rattle.pairs.specs.Rising.{Rising, none, one, more}
+use Rattle.laws.proofs.Rising.{rising-tail, rising-above, rising-least, rising-cons}
 use Rattle.pairs.specs.Pairs.{insert, insertAll, indexOf}
-
--- as tokens rise in a journal, below a bound
-bounded : {l : List ℕ} → Rising l → (T : ℕ) × Bounded T l
-bounded none = (0, bounded-none)
-bounded (one {k = k}) = (suc k, bounded-one {t = k} (omega arith))
-bounded (more h r) = let b = bounded r in (b .0, bounded-more h (b .1))
-
-unbounded : {T : ℕ} {l : List ℕ} → Bounded T l → Rising l
-unbounded bounded-none = none
-unbounded (bounded-one h) = one
-unbounded (bounded-more h r) = more h (unbounded r)
-
-tail-rising : {k : ℕ} {l : List ℕ} → Rising (k ∷ l) → Rising l
-tail-rising one = none
-tail-rising (more h r) = r
-
-tail-above : {k : ℕ} {l : List ℕ} → Rising (k ∷ l) → Within (λ m. k < m) l
-tail-above r = rising-above (bounded r .1)
-
-cons-rising : {k : ℕ} {l : List ℕ} → Within (λ m. k < m) l → Rising l → Rising (k ∷ l)
-cons-rising above none = one
-cons-rising above (one {k = m}) = more (above m (List·Memᴰ·head refl)) one
-cons-rising above (more {k = m} h r) = more (above m (List·Memᴰ·head refl)) (more h r)
 
 -- a member that is not the first is among the others
 later : {k m : ℕ} {l : List ℕ} → eqb k m ≡ false → List·Memᴰ k (m ∷ l) → List·Memᴰ k l
@@ -66,7 +40,7 @@ on-insert-all {P} (k ∷ ks) l f g = on-insert {P = P} k (insertAll ks l) (f k (
 pub insert-rising : (k : ℕ) (l : List ℕ) → Rising l → Rising (insert k l)
 insert-rising k [] r = one
 insert-rising k (m ∷ l) r = by-test Rising (ltb k m) (λ e. more (ltb-true k m e) r) (λ e. by-test Rising (eqb k m) (λ d. r)
-    (λ d. cons-rising (on-insert {P = λ x. m < x} k l (let h = ltb-false k m e in let n = eqb-false k m d in omega arith) (tail-above r)) (insert-rising k l (tail-rising r))))
+    (λ d. rising-cons (insert k l) (on-insert {P = λ x. m < x} k l (let h = ltb-false k m e in let n = eqb-false k m d in omega arith) (rising-above r)) (insert-rising k l (rising-tail r))))
 
 pub insert-member : (k : ℕ) (l : List ℕ) {m : ℕ} → List·Memᴰ m (insert k l) → (m ≡ k) ⊎ List·Memᴰ m l
 insert-member k l {m} x = on-insert {P = λ y. (y ≡ k) ⊎ List·Memᴰ y l} k l (inl refl) (λ y z. inr z) m x
@@ -81,14 +55,10 @@ insert-kept k [] x y = absurd (List·Memᴰ·not-nil y)
 insert-kept k (m ∷ l) x y = either (List·Memᴰ x) (ltb k m) (List·Memᴰ·tail y) (either (List·Memᴰ x) (eqb k m) y
     (on-cons {P = λ z. List·Memᴰ z (m ∷ insert k l)} (List·Memᴰ·head refl) (λ z w. List·Memᴰ·tail (insert-kept k l z w)) x y))
 
--- the first is the least
-least : {k : ℕ} {l : List ℕ} → Rising (k ∷ l) → Within (λ m. k ≤ m) (k ∷ l)
-least {k} r = on-cons {P = λ m. k ≤ m} (omega arith) (λ m x. let h : k < m = tail-above r m x in omega arith)
-
 pub insert-present : (k : ℕ) (l : List ℕ) → Rising l → List·Memᴰ k l → insert k l ≡ l
 insert-present k [] r x = absurd (List·Memᴰ·not-nil x)
-insert-present k (m ∷ l) r x = by-test (λ z. z ≡ m ∷ l) (ltb k m) (λ e. absurd (let h = ltb-true k m e in let g = least r k x in omega arith))
-    (λ e. by-test (λ z. z ≡ m ∷ l) (eqb k m) (λ d. refl) (λ d. ap (λ z. m ∷ z) (insert-present k l (tail-rising r) (later d x))))
+insert-present k (m ∷ l) r x = by-test (λ z. z ≡ m ∷ l) (ltb k m) (λ e. absurd (let h = ltb-true k m e in let g = rising-least r k x in omega arith))
+    (λ e. by-test (λ z. z ≡ m ∷ l) (eqb k m) (λ d. refl) (λ d. ap (λ z. m ∷ z) (insert-present k l (rising-tail r) (later d x))))
 
 pub insert-longer : (k : ℕ) (l : List ℕ) → (List·Memᴰ k l → ⊥) → length (insert k l) ≡ suc (length l)
 insert-longer k [] h = refl
@@ -111,9 +81,6 @@ member-insert-all (k ∷ ks) l =
       λ x y. kept x (rest .1 x y),
     )
 
-pub rising-same : (l k : List ℕ) → Rising l → Rising k → Same l k → l ≡ k
-rising-same l k p q s = rising-unique (bounded p .1) (bounded q .1) s
-
 -- a test that a member fails keeps fewer
 keep-fewer : (f : ℕ → Bool) {x : ℕ} {l : List ℕ} → List·Memᴰ x l → f x ≡ false → length (keep f l) < length l
 keep-fewer f {x} (List·Memᴰ·head {x = y} {xs = l} e) p = let q : f y ≡ false = rw (← e) p in rw q (omega (arith, keep-few f l))
@@ -125,11 +92,8 @@ pub rising-among : (l k : List ℕ) → Rising l → Among l k → length l ≤ 
 rising-among [] k p h = omega arith
 rising-among (x ∷ l) k p h =
     let above : List ℕ = keep (λ y. ltb x y) k in
-    let rest : length l ≤ length above = rising-among l above (tail-rising p) (λ y m. keep-kept (λ z. ltb x z) (h y (List·Memᴰ·tail m)) (lt-ltb x y (tail-above p y m))) in
+    let rest : length l ≤ length above = rising-among l above (rising-tail p) (λ y m. keep-kept (λ z. ltb x z) (h y (List·Memᴰ·tail m)) (lt-ltb x y (rising-above p y m))) in
     omega (arith, keep-fewer (λ y. ltb x y) (h x (List·Memᴰ·head refl)) (le-ltb x x (omega arith)))
-
-pub keep-rising : (f : ℕ → Bool) (l : List ℕ) → Rising l → Rising (keep f l)
-keep-rising f l r = unbounded (rising-keep f (bounded r .1))
 
 pub index-below : (k : ℕ) (l : List ℕ) → List·Memᴰ k l → indexOf k l < length l
 index-below k [] x = absurd (List·Memᴰ·not-nil x)
@@ -144,12 +108,12 @@ at-index [] i r h = absurd (not-suc-le-zero h)
 at-index (m ∷ l) zero r h = rw (eq-eqb m m refl)
 at-index (m ∷ l) (suc i) r h =
     let in-tail : i < length l = le-of-suc-le-suc h in
-    let above : m < getD l i 0 = tail-above r (getD l i 0) (entry-member l i in-tail) in
-    rw (ne-eqb (getD l i 0) m (omega arith)) (ap suc (at-index l i (tail-rising r) in-tail))
+    let above : m < getD l i 0 = rising-above r (getD l i 0) (entry-member l i in-tail) in
+    rw (ne-eqb (getD l i 0) m (omega arith)) (ap suc (at-index l i (rising-tail r) in-tail))
 
 pub index-order : (k m : ℕ) (l : List ℕ) → Rising l → List·Memᴰ k l → List·Memᴰ m l → k < m → indexOf k l < indexOf m l
 index-order k m [] r x y h = absurd (List·Memᴰ·not-nil x)
 index-order k m (n ∷ l) r x y h =
-    let low : n ≤ k = least r k x in
+    let low : n ≤ k = rising-least r k x in
     let d : eqb m n ≡ false = ne-eqb m n (omega arith) in
-    rw d (by-test (λ i. i < suc (indexOf m l)) (eqb k n) (λ e. omega arith) (λ e. omega (arith, index-order k m l (tail-rising r) (later e x) (later d y) h)))
+    rw d (by-test (λ i. i < suc (indexOf m l)) (eqb k n) (λ e. omega arith) (λ e. omega (arith, index-order k m l (rising-tail r) (later e x) (later d y) h)))

@@ -3,7 +3,7 @@
 --     with-bound, with-held         it stays below 2 to the power of n; a token that is in adds nothing
 --     same-holds                    sets with the same tokens are the same number
 --     member-holds, holds-member    the members are the tokens below 256 that are in
---     members-none                  a set without members is empty
+--     members-rising, members-none  the members rise; a set without members is empty
 --     sumOf, sum-holds, sum-bound   the number of a list of tokens
 --     number-pair, set-pair, pair-parts, set-bound, pair-before      a pair and its parts; pairs compare by number first
 use mathlib.Core.Path.{_≡_, refl, sym, ap, subst, _∙_}
@@ -18,8 +18,10 @@ use borrow.Author.Tests.{eqb-true, eqb-false, eq-eqb, ne-eqb}
 use lib.Dec.{eqb}
 use lib.Pow.{pow-pos, pow-add, shr-lt, shr-shr, split, high, low}
 use Rattle.laws.specs.Sets.{below, has}
+use Rattle.laws.specs.Rising.{Rising}
 use Rattle.laws.proofs.Booleans.{by-test, cond-true}
 use Rattle.laws.proofs.Sets.{on-keep, keep-kept, below-lt, lt-below}
+use Rattle.laws.proofs.Rising.{rising-keep, below-rising}
 use Rattle.words.specs.Word.{field}
 use Rattle.bits.proofs.Bits.{bit-none}
 use Rattle.pairs.specs.TokenSets.{holds, with, members}
@@ -109,6 +111,10 @@ member-holds set {t} m = on-keep {P = λ u. (u < 256) × (holds set u ≡ true)}
 pub holds-member : (set : ℕ) {t : ℕ} → t < 256 → holds set t ≡ true → List·Memᴰ t (members set)
 unfolding members
 holds-member set h e = keep-kept (λ u. holds set u) (lt-below 256 h) e
+
+pub members-rising : (set : ℕ) → Rising (members set)
+unfolding members
+members-rising set = rising-keep (λ t. holds set t) (below 256) (below-rising 256)
 
 pub members-none : (set : ℕ) → set < 2 ^ 256 → members set ≡ [] → set ≡ 0
 members-none set b e = same-holds 256 set 0 b (pow-pos 256) (λ t h. go t h (holds set t) refl ∙ sym (holds-none t))

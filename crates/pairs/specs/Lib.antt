@@ -1,3 +1,2 @@
 pub mod TokenSets
 pub mod Pairs
-pub mod Rising

@@ -24,9 +24,9 @@ use lib.Dec.{ltb}
 use lib.ListN.{length, take, drop, getD, set, length-map, length-set}
 use lib.Seq.{length-take-le, take-nil, drop-nil, getD-take, getD-set-same, getD-set-other, ext-getD}
 use Rattle.laws.specs.Sets.{keep}
+use Rattle.laws.specs.Rising.{Rising, none, one, more}
 use Rattle.laws.proofs.Lists.{entry-member, map-at}
 use Rattle.pairs.specs.Pairs.{insert, indexOf}
-use Rattle.pairs.specs.Rising.{Rising, none, one, more}
 use Rattle.pairs.proofs.Rising.{index-below, index-at, insert-present, insert-longer}
 use Rattle.rows.specs.Rows.{rowValue}
 use Rattle.pairtable.specs.Tables.{keys, Placed, Entered, RoomMade}

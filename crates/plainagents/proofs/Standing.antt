@@ -24,9 +24,11 @@ use borrow.Author.Tests.{lt-ltb, le-ltb, le-leb, lt-leb, eq-eqb, ne-eqb}
 use lib.Dec.{eqb, ltb, leb}
 use lib.ListN.{length, getD, length-append, List·getD-append}
 use lib.Seq.{getD-append-add}
+use Rattle.laws.specs.Rising.{Rising}
 use Rattle.laws.proofs.Booleans.{true-is-false, cond-true, cond-false}
 use Rattle.laws.proofs.Lists.{entry-member}
 use Rattle.laws.proofs.Sets.{Within, Among, on-keep, keep-none}
+use Rattle.laws.proofs.Rising.{rising-above, rising-tail}
 use Rattle.tcc.specs.Score.{tokensOf, partsOf, proceduresOf}
 use Rattle.tcc.specs.declared.Agent.{Agent}
 use Rattle.tcc.specs.declared.Agent.the-variants.{Next, Unless}
@@ -37,7 +39,6 @@ use Rattle.drafts.specs.declared.Written.the-variants.{Plain, Watch}
 use Rattle.drafts.proofs.Whens.{when-is}
 use Rattle.pairs.specs.TokenSets.{holds, with, members, several}
 use Rattle.pairs.specs.Pairs.{pair, numberIn, setIn, indexOf}
-use Rattle.pairs.specs.Rising.{Rising}
 use Rattle.pairs.proofs.TokenSets.{holds-none, with-bound, member-holds, members-none, set-pair, set-bound, pair-before}
 use Rattle.pairs.proofs.Rising.{index-below, index-at, at-index}
 use Rattle.pairtable.specs.Tables.{keys, Placed}
@@ -46,7 +47,6 @@ use Rattle.translation.specs.Places.{procedureAt, target, places, agentPlaces, 
 use Rattle.translation.specs.Plain.{asksFor, agentIn, askedToken, plainAgent, plainOf}
 use Rattle.translation.proofs.Places.{KnownAgent}
 use Rattle.translation.proofs.Copying.{PlacesFit, places-rising}
-use Rattle.translation.proofs.RisingLists.{rising-above, rising-rest}
 use Rattle.translation.proofs.PlainPairs.{agent-led, led-agent, written-parts, written-tokens, part-listed, call-listed}
 use Rattle.translation.proofs.AskedLaws.{asked-rising, asked-listed, asks-known}
 use Rattle.translation.proofs.PlainScore.{scoreIn, fits-sizes, places-fit}
@@ -65,7 +65,7 @@ no-agents m l r high = keep-none (λ k. ltb (numberIn k) 1024) l (λ k x. let ab
 pub kinds-split : (l : List ℕ) → Rising l → l ≡ agentPlaces l ++ procedurePlaces l
 kinds-split [] r = refl
 kinds-split (m ∷ l) r =
-    let rest = kinds-split l (rising-rest r) in
+    let rest = kinds-split l (rising-tail r) in
     by-cases (decLt (numberIn m) 1024)
     (λ low. rw (lt-ltb (numberIn m) 1024 low, lt-leb 1024 (numberIn m) low) (ap (λ k. m ∷ k) rest))
     (λ high.

@@ -9,7 +9,7 @@ use Rattle.tcc.specs.Lawful.{Lawful}
 use Rattle.tcc.specs.Instant.{Answer, State, answer, after}
 use Rattle.format.specs.Decode.{sizes, decode}
 use Rattle.lent.specs.States.{nextBytes, atLast}
-use Rattle.journal.specs.History.{entry, history, Rising}
+use Rattle.journal.specs.History.{entry, history, RisingBelow}
 use Rattle.history.specs.AnswerIn.{answerIn}
 use Rattle.history.proofs.Stands.{Stands, instant-entry, instant-stands}
 use Rattle.runlist.specs.declared.Stop.{Stop}
@@ -17,7 +17,7 @@ use Rattle.runlist.specs.declared.Stop.the-variants.{Not, Next, Last, Ro
 use Rattle.runlist.specs.Run.{stopAt, Ran, unlessStopped, runFrom}
 
 module _ (score : List ℕ) (law : Lawful (decode score)) (counted : length (decode score .agents) ≡ sizes score .agents) where
-  pub run-history : (lists : List (List ℕ)) → Within (Rising (decode score .tokens)) lists → (state : List ℕ) (st : State) → Stands score law counted state st → (room : ℕ) →
+  pub run-history : (lists : List (List ℕ)) → Within (RisingBelow (decode score .tokens)) lists → (state : List ℕ) (st : State) → Stands score law counted state st → (room : ℕ) →
       runFrom score state room lists .words ≡ history (decode score) st (take (runFrom score state room lists .instants) lists)
   unfolding runFrom history
   run-history [] rising state st stands room = refl

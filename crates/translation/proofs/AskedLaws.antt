@@ -18,8 +18,10 @@ use lib.Dec.{eqb, ltb}
 use lib.ListN.{length, getD}
 use borrow.Author.Tests.{eqb-true, eq-eqb}
 use Rattle.laws.specs.Sets.{Same, below, keep}
+use Rattle.laws.specs.Rising.{Rising, none, one}
 use Rattle.laws.proofs.Booleans.{by-test}
 use Rattle.laws.proofs.Sets.{Within, on-cons, on-append, on-keep, keep-kept, keep-none}
+use Rattle.laws.proofs.Rising.{rising-unique}
 use Rattle.tcc.specs.declared.Agent.{Agent}
 use Rattle.tcc.specs.declared.Agent.the-variants.{Skip, Abort, Tell, Parallel, When, Next, Unless, Call}
 use Rattle.drafts.specs.Draft.{Draft, writtenAt, asWhen, LawfulDraft}
@@ -28,13 +30,11 @@ use Rattle.pairs.specs.TokenSets.{holds, with, members, several}
 use Rattle.pairs.specs.Pairs.{insertAll, numberIn, setIn, indexOf}
 use Rattle.translation.specs.Places.{places, agentPlaces}
 use Rattle.translation.specs.Plain.{asksFor, agentIn, allAsked, askedSets, askedToken}
-use Rattle.pairs.proofs.TokenSets.{holds-with, holds-none, member-holds, holds-member}
+use Rattle.pairs.proofs.TokenSets.{holds-with, holds-none, member-holds, holds-member, members-rising}
 use Rattle.translation.specs.Led.{Led}
 use Rattle.translation.proofs.Places.{led-known}
-use Rattle.translation.proofs.RisingLists.{members-rising}
 use Rattle.translation.proofs.PlainPairs.{written-tokens, led-agent, agent-led}
-use Rattle.pairs.specs.Rising.{Rising, none, one}
-use Rattle.pairs.proofs.Rising.{rising-same, insert-all-rising, insert-all-member, member-insert-all, index-below}
+use Rattle.pairs.proofs.Rising.{insert-all-rising, insert-all-member, member-insert-all, index-below}
 
 module _ (d : Draft) where
   pub asked-rising : (agents : List ℕ) → Rising (askedSets d agents)
@@ -85,7 +85,7 @@ one-holds : (t u : ℕ) → holds (with t 0) u ≡ true → u ≡ t
 one-holds t u e = eqb-true u t (sym (or-false (eqb u t)) ∙ ap (λ b. eqb u t || b) (sym (holds-none u)) ∙ sym (holds-with t u 0) ∙ e)
 
 members-one : (t : ℕ) → t < 256 → members (with t 0) ≡ t ∷ []
-members-one t h = rising-same (members (with t 0)) (t ∷ []) (members-rising (with t 0)) one same
+members-one t h = rising-unique (members-rising (with t 0)) one same
   where
     same : Same (members (with t 0)) (t ∷ [])
     same u = (λ m. List·Memᴰ·head (one-holds t u (member-holds (with t 0) m .1)), λ m. Memᴰ·cast (List·Memᴰ·eq-of-singleton m) (holds-member (with t 0) h (with-holds t 0)))

@@ -8,13 +8,14 @@ use mathlib.Core.List.{List, [], _∷_, _++_, map, List·Memᴰ, List·Memᴰ·h
 use Prim.Native.Nat.{ℕ, suc, _<_}
 use native.Mathlib.Omega.{arith}
 use lib.ListN.{length, length-append, length-map}
+use Rattle.laws.specs.Rising.{Rising}
 use Rattle.laws.proofs.Sets.{Within, on-append, on-map, map-member}
+use Rattle.laws.proofs.Rising.{rising-above, rising-tail}
 use Rattle.tcc.specs.Closure.{Rule}
 use Rattle.pairs.specs.TokenSets.{members}
+use Rattle.pairs.proofs.TokenSets.{members-rising}
 use Rattle.translation.specs.Plain.{memberRules}
 use Rattle.translation.specs.Limits.{Different, none, Asking}
-use Rattle.pairs.specs.Rising.{Rising}
-use Rattle.translation.proofs.RisingLists.{members-rising, rising-above, rising-rest}
 use Rattle.translation.proofs.Different.{rising-different, different-map, different-append}
 
 abbrev pub asking : ℕ → ℕ → Asking
@@ -40,7 +41,7 @@ on-askings P (set ∷ sets) h = on-append (map (asking set) (members set)) (on-m
 
 pub askings-different : (sets : List ℕ) → Rising sets → Different (askingsOf sets)
 askings-different [] r = none
-askings-different (set ∷ sets) r = different-append (different-map (asking set) (rising-different (members-rising set)) (λ t u m n e. ap (λ x. x .token) e)) (askings-different sets (rising-rest r)) apart
+askings-different (set ∷ sets) r = different-append (different-map (asking set) (rising-different (members-rising set)) (λ t u m n e. ap (λ x. x .token) e)) (askings-different sets (rising-tail r)) apart
   where
     above : Within (λ x. set < x .set) (askingsOf sets)
     above = on-askings (λ x. set < x .set) sets (λ s t m n. rising-above r s m)

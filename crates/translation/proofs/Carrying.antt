@@ -19,6 +19,7 @@ use native.Mathlib.Omega.{arith}
 use lib.Dec.{eqb}
 use lib.ListN.{length, getD}
 use borrow.Author.Tests.{eqb-true, eqb-false}
+use Rattle.laws.specs.Rising.{Rising}
 use Rattle.laws.proofs.Booleans.{by-test}
 use Rattle.laws.proofs.Lists.{map-at, entry-member}
 use Rattle.laws.proofs.Sets.{Within, on-cons}
@@ -36,7 +37,6 @@ use Rattle.pairs.specs.Pairs.{pair, numberIn, setIn, indexOf}
 use Rattle.translation.specs.Places.{procedureAt, target, places}
 use Rattle.translation.specs.Plain.{asksFor, agentIn, askedToken, memberRules, plainAgent, standsAt, plainOf, fits}
 use Rattle.pairs.proofs.TokenSets.{sumOf, number-pair, set-pair, pair-parts}
-use Rattle.pairs.specs.Rising.{Rising}
 use Rattle.pairs.proofs.Rising.{index-below, index-at, at-index, index-order}
 use Rattle.translation.specs.Led.{Led}
 use Rattle.translation.proofs.Places.{target-plain, target-watch, stands-led-agent, stands-led-procedure, stands-bound-agent}

@@ -27,13 +27,14 @@ use lib.Dec.{eqb, ltb, leb}
 use lib.ListN.{length}
 use borrow.Author.Tests.{eqb-true, eqb-false, ltb-false, le-leb}
 use Rattle.laws.specs.Sets.{keep, has}
+use Rattle.laws.specs.Rising.{Rising, one}
 use Rattle.laws.proofs.Booleans.{true-is-false, either, by-test}
 use Rattle.laws.proofs.Sets.{Within, Among, on-cons, on-append, on-keep, keep-kept, has-member, member-has}
+use Rattle.laws.proofs.Rising.{rising-unique}
 use Rattle.drafts.specs.Draft.{Draft}
 use Rattle.pairs.specs.Pairs.{pair, numberIn, insertAll}
 use Rattle.translation.specs.Places.{procedureAt, leadsTo, allLead, grown, placesWithin, places, agentPlaces, procedurePlaces}
-use Rattle.pairs.specs.Rising.{Rising, one}
-use Rattle.pairs.proofs.Rising.{insert-present, insert-longer, insert-all-rising, insert-all-member, member-insert-all, rising-same, rising-among, keep-rising}
+use Rattle.pairs.proofs.Rising.{insert-present, insert-longer, insert-all-rising, insert-all-member, member-insert-all, rising-among}
 use Rattle.translation.specs.Led.{Led, first, on, Overfull}
 
 pub record Closed (d : Draft) (l : List ℕ) : Type 0 where
@@ -164,7 +165,7 @@ pub places-unique : (d : Draft) (l : List ℕ) → Rising l → Within (Led d) l
 places-unique d l r w c few =
     let among : Among (places d) l = λ k m. led-closed d l c k (places-led d k m) in
     let held : Closed d (places d) = places-held d (omega (arith, rising-among (places d) l (places-rising d) among)) in
-    rising-same (places d) l (places-rising d) r (λ k. (among k, λ m. led-closed d (places d) held k (w k m)))
+    rising-unique (places-rising d) r (λ k. (among k, λ m. led-closed d (places d) held k (w k m)))
 
 pub overfull-over : (d : Draft) → Overfull d → Over (places d)
 overfull-over d o = long-over (places d) (⊎-elim

@@ -9,10 +9,10 @@ use mathlib.Core.Logic.{_⊎_, inl, inr, ⊎-elim}
 use Prim.Native.Nat.{ℕ, suc, _<_, _≤_}
 use native.Mathlib.Omega.{arith}
 use lib.ListN.{length}
+use Rattle.laws.specs.Rising.{Rising}
 use Rattle.laws.proofs.Sets.{Within, Among}
+use Rattle.laws.proofs.Rising.{rising-above}
 use Rattle.translation.specs.Limits.{Different, none, more}
-use Rattle.pairs.specs.Rising.{Rising}
-use Rattle.translation.proofs.RisingLists.{rising-above}
 
 pub rising-different : {l : List ℕ} → Rising l → Different l
 rising-different Rising.none = none

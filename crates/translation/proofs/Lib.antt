@@ -1,6 +1,5 @@
 pub mod Places
 pub mod Copying
-pub mod RisingLists
 pub mod PlainPairs
 pub mod AskedLaws
 pub mod PlainScore

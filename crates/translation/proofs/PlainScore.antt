@@ -18,9 +18,11 @@ use native.Mathlib.Omega.{arith}
 use native.Mathlib.Decide.{decLt}
 use lib.ListN.{length, getD, length-map, List·getD-eq-default}
 use borrow.Author.Tests.{leb-true}
+use Rattle.laws.specs.Rising.{Rising}
 use Rattle.laws.proofs.Booleans.{and-both}
 use Rattle.laws.proofs.Lists.{entry-member, map-at}
 use Rattle.laws.proofs.Sets.{Within, on-append, on-map}
+use Rattle.laws.proofs.Rising.{rising-keep}
 use Rattle.tcc.specs.Closure.{Rule}
 use Rattle.tcc.specs.Score.{Score, agentAt}
 use Rattle.tcc.specs.Score as plain
@@ -32,8 +34,7 @@ use Rattle.pairs.specs.TokenSets.{members}
 use Rattle.pairs.specs.Pairs.{numberIn, setIn, indexOf}
 use Rattle.translation.specs.Places.{places, agentPlaces, procedurePlaces}
 use Rattle.translation.specs.Plain.{agentIn, askedSets, memberRules, standsAt, plainAgent, plainBy, fits}
-use Rattle.pairs.specs.Rising.{Rising}
-use Rattle.pairs.proofs.Rising.{keep-rising, at-index}
+use Rattle.pairs.proofs.Rising.{at-index}
 use Rattle.translation.proofs.Copying.{PlacesFit, places-rising}
 use Rattle.translation.proofs.PlainPairs.{led-agent, agent-led}
 
@@ -85,10 +86,10 @@ module _ (d : Draft) where
   rootBy k = placeOf (setIn k) (rootOf d (numberIn k - 1024))
 
   pub agents-rising : Rising agentsIn
-  agents-rising = keep-rising _ (places d) (places-rising d)
+  agents-rising = rising-keep _ (places d) (places-rising d)
 
   pub procedures-rising : Rising proceduresIn
-  procedures-rising = keep-rising _ (places d) (places-rising d)
+  procedures-rising = rising-keep _ (places d) (places-rising d)
 
   pub agents-length : length (scoreIn .agents) ≡ length agentsIn
   agents-length = length-map agentsIn (λ k. agentBy (setIn k) (agentIn d k))

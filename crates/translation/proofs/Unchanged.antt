@@ -19,8 +19,10 @@ use lib.ListN.{length, getD, length-map}
 use lib.Seq.{ext-getD}
 use borrow.Author.Tests.{lt-ltb, le-ltb, le-leb, lt-leb}
 use Rattle.laws.specs.Sets.{below, keep}
+use Rattle.laws.specs.Rising.{Rising}
 use Rattle.laws.proofs.Lists.{map-at}
 use Rattle.laws.proofs.Sets.{Within, Among, on-cons, on-append, on-map, map-member, keep-append, keep-none, below-lt, lt-below, below-length, below-at}
+use Rattle.laws.proofs.Rising.{rising-append, rising-images, below-rising}
 use Rattle.tcc.specs.Score.{agentAt, tokensOf, partsOf, proceduresOf}
 use Rattle.tcc.specs.declared.Agent.{Agent}
 use Rattle.tcc.specs.declared.Agent.the-variants.{Skip, Abort, Tell, Parallel, When, Next, Unless, Call}
@@ -33,9 +35,7 @@ use Rattle.pairs.specs.TokenSets.{several}
 use Rattle.translation.specs.Plain.{asksFor, agentIn, askedSets, standsAt, plainAgent, plainBy, plainOf}
 use Rattle.translation.specs.Unchanged.{WithoutWatches, AllOnPaths, Unchanged}
 use Rattle.pairs.proofs.TokenSets.{number-pair, set-pair, pair-before}
-use Rattle.pairs.specs.Rising.{Rising}
 use Rattle.pairs.proofs.Rising.{at-index}
-use Rattle.translation.proofs.RisingLists.{rising-append, rising-map, below-rising}
 use Rattle.translation.specs.Led.{Led}
 use Rattle.translation.proofs.Places.{target-plain, stands-led-agent, stands-led-procedure}
 use Rattle.translation.proofs.Copying.{Closed, PlacesFit, fit-short, places-unique}
@@ -92,10 +92,10 @@ procedures-within : (n : ℕ) → Within (λ k. 1024 ≤ numberIn k) (bareProced
 procedures-within n = on-map (λ k. 1024 ≤ numberIn k) (λ p. pair (procedureAt p) 0) (below n) (λ p m. omega (arith, bare-number (procedureAt p)))
 
 agents-rise : (n : ℕ) → Rising (bareAgents n)
-agents-rise n = rising-map (λ i. pair i 0) bare-before (below-rising n)
+agents-rise n = rising-images (λ i. pair i 0) bare-before (below-rising n)
 
 procedures-rise : (n : ℕ) → Rising (bareProcedures n)
-procedures-rise n = rising-map (λ p. pair (procedureAt p) 0) (λ p q h. bare-before (procedureAt p) (procedureAt q) (omega arith)) (below-rising n)
+procedures-rise n = rising-images (λ p. pair (procedureAt p) 0) (λ p q h. bare-before (procedureAt p) (procedureAt q) (omega arith)) (below-rising n)
 
 module _ (n m : ℕ) (h : n ≤ 1024) where
   pairs-rise : Rising (bareAgents n ++ bareProcedures m)

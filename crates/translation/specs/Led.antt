@@ -4,9 +4,9 @@
 use mathlib.Core.List.{List, List·Memᴰ}
 use Prim.Native.Nat.{ℕ, _<_}
 use lib.ListN.{length}
+use Rattle.laws.specs.Rising.{Rising}
 use Rattle.drafts.specs.Draft.{Draft}
 use Rattle.pairs.specs.Pairs.{mostPairs, pair}
-use Rattle.pairs.specs.Rising.{Rising}
 use Rattle.translation.specs.Places.{procedureAt, leadsTo}
 
 pub data Led (d : Draft) : ℕ → Type 0 where

@@ -17,7 +17,7 @@ use Rattle.bits.specs.Bits.{bytesOf}
 use Rattle.lent.specs.States.{startBytes, lastNumber}
 use Rattle.lent.specs.Lengths.{scratchBytes}
 use Rattle.parts.specs.Instants.{inputLists}
-use Rattle.journal.specs.History.{history, Rising}
+use Rattle.journal.specs.History.{history, RisingBelow}
 use Rattle.run.specs.RunCall.{Lent}
 use Rattle.answer.specs.Answer.{numberIn, valueIn}
 use Rattle.score.specs.ScoreRun.{ScoreRun}
@@ -43,7 +43,7 @@ RunsAsTheDraft draft plain =
 abbrev pub ChecksAsTheDraft : List ℕ → List ℕ → Type 0
 ChecksAsTheDraft draft plain =
     (instants : List (List ℕ)) (words before after : List ℕ) (answer : ℕ) → KnownTo (decodeDraft draft) instants →
-    ((l : List ℕ) → List·Memᴰ l instants → Rising (decodeDraft draft .tokens) l) → length instants ≤ lastNumber →
+    ((l : List ℕ) → List·Memᴰ l instants → RisingBelow (decodeDraft draft .tokens) l) → length instants ≤ lastNumber →
     Journal (decodeDraft draft) instants words → length before ≡ scratchBytes → ScoreJournalCheck plain (bytesOf words) before after answer →
     (numberIn answer ≡ 0) × (valueIn answer ≡ length instants)
 

@@ -5,9 +5,9 @@
 use mathlib.Core.Path.{_≡_, ap, subst, subst⁻¹}
 use native.Mathlib.Omega.{arith}
 use borrow.Author.Needs.{needs}
+use Rattle.laws.specs.Rising.{Rising}
 use Rattle.format.specs.Decode.{sizes}
 use Rattle.scorefile.proofs.Stages.{head-read}
-use Rattle.pairs.specs.Rising.{Rising}
 use Rattle.pairtable.specs.Tables.{keys, Placed}
 use Rattle.translation.proofs.Copying.{places-rising}
 use Rattle.draftfile.specs.DraftFile.{decodeDraft}

@@ -1,5 +1,5 @@
--- Contracts of inner functions: strictly rising lists of numbers.
---     Rising         each entry is above the one before
+-- Lists of numbers that rise strictly.
+--     Rising        each entry is above the one before
 use mathlib.Core.List.{List, [], _∷_}
 use Prim.Native.Nat.{ℕ, _<_}
 
