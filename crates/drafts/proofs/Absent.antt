@@ -15,8 +15,8 @@ use Rattle.tcc.proofs.Confluence.{confluence}
 use Rattle.tcc.proofs.Chain.{after-running}
 use Rattle.drafts.specs.Draft.{Draft}
 use Rattle.drafts.specs.Order.{Copy, End, aborted, left}
-use Rattle.drafts.specs.Chain.{Chain, none, then, aborts}
-use Rattle.drafts.proofs.Carries.{Carries, OkEnds, InputsKnown, StandingAll, placesOf}
+use Rattle.drafts.specs.Chain.{InputsKnown, Chain, none, then, aborts}
+use Rattle.drafts.proofs.Carries.{Carries, OkEnds, StandingAll, placesOf}
 use Rattle.drafts.proofs.Orders.{order-leads}
 use Rattle.drafts.proofs.Ends.{quiet-ends}
 use Rattle.drafts.proofs.Carried.{start-beside}
@@ -27,7 +27,7 @@ Without t (left l s) = List·Memᴰ t s → ⊥
 
 module _ {d : Draft} {sc : Score} {Member : ℕ → ℕ → Type 0} {Ok : List ℕ → Type 0} {Standing : ℕ → List ℕ → Type 0} {place : ℕ → List ℕ → ℕ} (carries : Carries d sc Member Ok Standing place) (t : ℕ) where
   pub chain-without : {copies : List Copy} {instants : List (List ℕ)} {ends : List End} → Chain d copies instants ends → (agents : List ℕ) →
-      OkEnds d sc Member Ok Standing place ends → InputsKnown d sc Member Ok Standing place instants → StandingAll d sc Member Ok Standing place copies →
+      OkEnds d sc Member Ok Standing place ends → InputsKnown (d .tokens) instants → StandingAll d sc Member Ok Standing place copies →
       Same (placesOf place copies) agents → Within (λ a. List·Memᴰ t (a .store) → ⊥) (answers sc (running agents) instants) → Within (Without t) ends
   unfolding answers answer
   chain-without none agents ok known stands same never = λ e m. elim m [ ]

@@ -25,8 +25,8 @@ use Rattle.tcc.proofs.Output.{ports-between, output-none, output-agrees}
 use Rattle.journal.specs.History.{instantWords, entry, history}
 use Rattle.drafts.specs.Draft.{Draft, whens}
 use Rattle.drafts.specs.Order.{Copy, Item, copy, input, End, aborted, left, start}
-use Rattle.drafts.specs.Chain.{Chain, none, then, aborts, statusOf, shownAt, shown}
-use Rattle.drafts.proofs.Carries.{Extends, Carries, OkEnds, InputsKnown, StandingAll, placesOf, CarriedOver}
+use Rattle.drafts.specs.Chain.{InputsKnown, Chain, none, then, aborts, statusOf, shownAt, shown}
+use Rattle.drafts.proofs.Carries.{Extends, Carries, OkEnds, StandingAll, placesOf, CarriedOver}
 use Rattle.drafts.proofs.Matching.{matches-start}
 use Rattle.drafts.proofs.Stores.{start-extends}
 use Rattle.drafts.proofs.Orders.{ItemStands, Beside, order-leads}
@@ -68,7 +68,7 @@ module _ {d : Draft} {sc : Score} {Member : ℕ → ℕ → Type 0} {Ok : List �
   aborted-shown (inputs ∷ rest) = ap₂ _++_ (ap (instantWords 2 inputs) (sym (output-none sc 2))) (aborted-shown rest)
 
   chain-shown : {copies : List Copy} {instants : List (List ℕ)} {ends : List End} → Chain d copies instants ends → (agents : List ℕ) →
-      OkEnds d sc Member Ok Standing place ends → InputsKnown d sc Member Ok Standing place instants → StandingAll d sc Member Ok Standing place copies →
+      OkEnds d sc Member Ok Standing place ends → InputsKnown (d .tokens) instants → StandingAll d sc Member Ok Standing place copies →
       Same (placesOf place copies) agents → shown d instants ends ≡ history sc (running agents) instants
   unfolding shown history answer
   chain-shown none agents ok known stands same = refl

@@ -6,7 +6,7 @@
 --     NextCarried, AgentCarried, Carried     the plain agent of a copy does what the copy does; a watch's is its body's
 --     Carries       so for every copy that stands under its set, and the rules, tokens and ports are as they should be
 --     placesOf      the plain agents of copies
---     OkEnd, OkEnds, InputsKnown, StandingAll     of a chain: its quiet stores, its inputs, its copies
+--     OkEnd, OkEnds, StandingAll     of a chain: its quiet stores, its copies
 --     CarriedOver   what the chains of a draft then show
 use mathlib.Core.Path.{_≡_}
 use mathlib.Core.List.{List, [], _∷_, map, List·Memᴰ}
@@ -22,7 +22,7 @@ use Rattle.tcc.specs.declared.Agent.the-variants.{Skip, Abort, Tell, Parallel, 
 use Rattle.journal.specs.History.{history}
 use Rattle.drafts.specs.Draft.{Draft, writtenAt, rootOf, LawfulDraft}
 use Rattle.drafts.specs.Order.{Copy, End, aborted, left}
-use Rattle.drafts.specs.Chain.{Chain, shown}
+use Rattle.drafts.specs.Chain.{InputsKnown, Chain, shown}
 use Rattle.drafts.specs.declared.Written.{Written}
 use Rattle.drafts.specs.declared.Written.the-variants.{Plain, Watch}
 
@@ -86,14 +86,11 @@ module _ (d : Draft) (sc : Score) (Member : ℕ → ℕ → Type 0) (Ok : List �
   abbrev pub OkEnds : List End → Type 0
   OkEnds ends = (e : End) → List·Memᴰ e ends → OkEnd e
 
-  abbrev pub InputsKnown : List (List ℕ) → Type 0
-  InputsKnown instants = (inputs : List ℕ) → List·Memᴰ inputs instants → (t : ℕ) → List·Memᴰ t inputs → t < d .tokens
-
   abbrev pub StandingAll : List Copy → Type 0
   StandingAll copies = (c : Copy) → List·Memᴰ c copies → Standing (c .agent) (c .under)
 
   abbrev pub CarriedOver : Type 0
   CarriedOver =
       Carries → (copies : List Copy) (agents : List ℕ) (instants : List (List ℕ)) (ends : List End) →
-      Chain d copies instants ends → OkEnds ends → InputsKnown instants → StandingAll copies → Same (placesOf place copies) agents →
+      Chain d copies instants ends → OkEnds ends → InputsKnown (d .tokens) instants → StandingAll copies → Same (placesOf place copies) agents →
       shown d instants ends ≡ history sc (running agents) instants

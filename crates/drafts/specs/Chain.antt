@@ -1,4 +1,5 @@
 -- A chain of finished orders of a draft along a list of instants, and the journal that it shows.
+--     InputsKnown    a list of instants over the tokens below T
 --     Chain          finished orders at each instant, each starting with the very copies that the one before left awake, and
 --                    how each ends; once one aborts, every later instant is aborted
 --     startCopies    "a draft that starts has procedure 0's root under no token"
@@ -8,14 +9,17 @@
 --     Journal        some chain from the start of a draft shows these words
 use mathlib.Core.Path.{_≡_}
 use mathlib.Core.Bool.{cond}
-use mathlib.Core.List.{List, [], _∷_, _++_, map}
-use Prim.Native.Nat.{ℕ}
+use mathlib.Core.List.{List, [], _∷_, _++_, map, List·Memᴰ}
+use Prim.Native.Nat.{ℕ, _<_}
 use Rattle.laws.specs.Sets.{has}
 use Rattle.tcc.specs.Store.{Closes}
 use Rattle.tcc.specs.Instant.{output}
 use Rattle.journal.specs.History.{instantWords}
 use Rattle.drafts.specs.Draft.{Draft, rootOf, whens}
 use Rattle.drafts.specs.Order.{Copy, Item, End, aborted, left, Order, Quiet, awakeNext, start}
+
+abbrev pub InputsKnown : ℕ → List (List ℕ) → Type 0
+InputsKnown tokens instants = (inputs : List ℕ) → List·Memᴰ inputs instants → (t : ℕ) → List·Memᴰ t inputs → t < tokens
 
 pub data Chain (d : Draft) : List Copy → List (List ℕ) → List End → Type 0 where
   none : {copies : List Copy} → Chain d copies [] []

@@ -8,7 +8,7 @@
 --     Unwatched       the claim
 use mathlib.Core.Path.{_≡_}
 use mathlib.Core.List.{List, map, List·Memᴰ}
-use Prim.Native.Nat.{ℕ, zero, suc, _<_}
+use Prim.Native.Nat.{ℕ, zero, suc}
 use Rattle.tcc.specs.Score.{Score}
 use Rattle.tcc.specs.Instant.{startState}
 use Rattle.tcc.specs.declared.Agent.{Agent}
@@ -16,7 +16,7 @@ use Rattle.tcc.specs.declared.Agent.the-variants.{Skip, Abort, Tell, Parallel, 
 use Rattle.journal.specs.History.{history}
 use Rattle.drafts.specs.Draft.{Draft, writtenAt, asWhen, LawfulDraft}
 use Rattle.drafts.specs.Order.{Item, End, left}
-use Rattle.drafts.specs.Chain.{Chain, startCopies, shown}
+use Rattle.drafts.specs.Chain.{InputsKnown, Chain, startCopies, shown}
 use Rattle.drafts.specs.declared.Written.the-variants.{Plain, Watch}
 
 -- n bounds the watches passed: a body has a lower number than its agent
@@ -56,7 +56,6 @@ NeverIn d ends = (l : List Item) (s : List ℕ) → List·Memᴰ (left l s) ends
 
 abbrev pub Unwatched : Type 0
 Unwatched =
-    (d : Draft) (instants : List (List ℕ)) (ends : List End) → LawfulDraft d →
-    ((inputs : List ℕ) → List·Memᴰ inputs instants → (t : ℕ) → List·Memᴰ t inputs → t < d .tokens) →
+    (d : Draft) (instants : List (List ℕ)) (ends : List End) → LawfulDraft d → InputsKnown (d .tokens) instants →
     Chain d (startCopies d) instants ends → NeverIn d ends →
     shown d instants ends ≡ history (unwatched d) (startState (unwatched d)) instants

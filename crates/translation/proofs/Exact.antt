@@ -12,13 +12,13 @@ use Rattle.laws.proofs.Sets.{on-cons, same-refl}
 use Rattle.tcc.specs.Score as plain
 use Rattle.drafts.specs.Draft.{Draft, rootOf, asWhen, LawfulDraft}
 use Rattle.drafts.specs.Order.{Copy, End, aborted, left}
-use Rattle.drafts.specs.Chain.{Chain, startCopies, shown}
+use Rattle.drafts.specs.Chain.{InputsKnown, Chain, startCopies, shown}
 use Rattle.drafts.specs.WeightBound.{CopiesBelow}
 use Rattle.drafts.proofs.Carries.{OkEnd, StandingAll}
 use Rattle.drafts.proofs.Carried.{carried-over}
 use Rattle.drafts.proofs.ChainExists.{chain-exists}
 use Rattle.translation.specs.Plain.{plainOf, fits}
-use Rattle.translation.specs.Exact.{InputsKnown, plainHistory, Exact}
+use Rattle.translation.specs.Exact.{plainHistory, Exact}
 use Rattle.translation.proofs.Asked.{Member}
 use Rattle.translation.proofs.Carrying.{Standing, placeOf, plain-carries, start-standing, plain-start}
 
@@ -33,7 +33,7 @@ module _ (d : Draft) where
   copies-below : LawfulDraft d → CopiesBelow d (startCopies d)
   copies-below law = on-cons {P = λ c. c .agent < length (d .agents)} (subst (λ n. rootOf d 0 < n) (length-map (d .agents) asWhen) (law .roots-known 0 (law .some-roots))) (λ c m. elim m [ ])
 
-module _ (d : Draft) (instants : List (List ℕ)) (law : LawfulDraft d) (fit : fits (plainOf d) ≡ true) (known : InputsKnown d instants) where
+module _ (d : Draft) (instants : List (List ℕ)) (law : LawfulDraft d) (fit : fits (plainOf d) ≡ true) (known : InputsKnown (d .tokens) instants) where
   chain-shows : (ends : List End) → Chain d (startCopies d) instants ends → shown d instants ends ≡ plainHistory d instants
   chain-shows ends c = carried-over d (plainOf d) (Member d) (λ s. Unit {0}) (Standing d) (placeOf d) (plain-carries d law fit) (startCopies d) (plain.rootOf (plainOf d) 0 ∷ []) instants ends c (λ e m. ends-ok d e) known (copies-standing d) same
     where

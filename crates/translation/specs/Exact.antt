@@ -1,24 +1,20 @@
 -- The plain score plays as the draft is defined to: "every finished chain of draft orders shows exactly the history of the
 -- plain score, and there is one, up to and past an abort".
---     InputsKnown      a list over the draft's tokens
 --     Exact            the claim, over the definitions
 use mathlib.Core.Path.{_≡_}
 use mathlib.Core.Bool.{true}
-use mathlib.Core.List.{List, List·Memᴰ}
-use Prim.Native.Nat.{ℕ, _<_}
+use mathlib.Core.List.{List}
+use Prim.Native.Nat.{ℕ}
 use Rattle.tcc.specs.Instant.{startState}
 use Rattle.journal.specs.History.{history}
 use Rattle.drafts.specs.Draft.{Draft, LawfulDraft}
-use Rattle.drafts.specs.Chain.{Journal}
+use Rattle.drafts.specs.Chain.{InputsKnown, Journal}
 use Rattle.translation.specs.Plain.{plainOf, fits}
-
-abbrev pub InputsKnown : Draft → List (List ℕ) → Type 0
-InputsKnown d instants = (inputs : List ℕ) → List·Memᴰ inputs instants → (t : ℕ) → List·Memᴰ t inputs → t < d .tokens
 
 abbrev pub plainHistory : Draft → List (List ℕ) → List ℕ
 plainHistory d instants = history (plainOf d) (startState (plainOf d)) instants
 
 abbrev pub Exact : Type 0
 Exact =
-    (d : Draft) (instants : List (List ℕ)) → LawfulDraft d → fits (plainOf d) ≡ true → InputsKnown d instants →
+    (d : Draft) (instants : List (List ℕ)) → LawfulDraft d → fits (plainOf d) ≡ true → InputsKnown (d .tokens) instants →
     ((words : List ℕ) → Journal d instants words → words ≡ plainHistory d instants) × Journal d instants (plainHistory d instants)

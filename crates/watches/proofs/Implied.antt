@@ -16,7 +16,7 @@ use Rattle.bits.specs.Bits.{bytesOf}
 use Rattle.lent.specs.Lengths.{scratchBytes}
 use Rattle.lent.specs.States.{startBytes}
 use Rattle.run.specs.RunCall.{Lent}
-use Rattle.drafts.specs.Chain.{Journal}
+use Rattle.drafts.specs.Chain.{InputsKnown, Journal}
 use Rattle.translation.specs.Plain.{plainOf}
 use Rattle.encoding.specs.Encode.{scoreBytes}
 use Rattle.draftfile.specs.DraftFile.{decodeDraft}
@@ -29,7 +29,7 @@ use Rattle.score.proofs.CheckCall.{read}
 use Rattle.demands.specs.Calls.{written}
 use Rattle.demands.specs.JournalExact.{startHistory}
 use Rattle.demands.proofs.JournalExact.{runs-accepted}
-use Rattle.watches.specs.Translations.{plainIn, Translated, KnownTo}
+use Rattle.watches.specs.Translations.{plainIn, Translated}
 use Rattle.watches.proofs.Translations.{Ended, refused, over, wrote, ended, translated-wrote, plain-is}
 use Rattle.watches.proofs.TranslationExact.{translation-exact}
 
@@ -54,7 +54,7 @@ module _ (draft before after : List ℕ) (answer : ℕ) (t : Translated draft be
   pub check-accepts : (checked : ℕ) → CheckCall (plainIn after answer) checked → numberIn checked ≡ 0
   check-accepts checked c = read (plainIn after answer) checked c .0 ∙ ap numberOf (translation-exact draft before after answer t .0)
 
-  pub one-journal : (instants : List (List ℕ)) (words words′ : List ℕ) → KnownTo (decodeDraft draft) instants →
+  pub one-journal : (instants : List (List ℕ)) (words words′ : List ℕ) → InputsKnown (decodeDraft draft .tokens) instants →
       Journal (decodeDraft draft) instants words → Journal (decodeDraft draft) instants words′ → words ≡ words′
   one-journal instants words words′ known j j′ = let shows = translation-exact draft before after answer t .1 instants known .0 in shows words j ∙ sym (shows words′ j′)
 

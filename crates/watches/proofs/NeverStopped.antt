@@ -17,7 +17,7 @@ use Rattle.parts.specs.Instants.{inputLists}
 use Rattle.journal.specs.History.{history}
 use Rattle.drafts.specs.Draft.{Draft, LawfulDraft}
 use Rattle.drafts.specs.Order.{End, aborted, left}
-use Rattle.drafts.specs.Chain.{Chain, startCopies}
+use Rattle.drafts.specs.Chain.{InputsKnown, Chain, startCopies}
 use Rattle.drafts.specs.Unwatched.{NeverIn}
 use Rattle.drafts.proofs.Absent.{chain-without}
 use Rattle.drafts.proofs.Unwatched.{unwatched-shown}
@@ -26,12 +26,12 @@ use Rattle.translation.proofs.Carrying.{Standing, plain-carries, start-standing
 use Rattle.draftfile.specs.DraftFile.{decodeDraft}
 use Rattle.demands.specs.Calls.{written}
 use Rattle.demands.proofs.JournalExact.{runs-accepted}
-use Rattle.watches.specs.Translations.{plainIn, Translated, KnownTo}
+use Rattle.watches.specs.Translations.{plainIn, Translated}
 use Rattle.watches.specs.NeverStopped.{NeverWatched, unwatchedHistory, NeverStopped}
 use Rattle.watches.proofs.Translations.{translated-wrote, draft-lawful, plain-accepted, plain-decoded, taken-known}
 use Rattle.watches.proofs.TranslationExact.{translation-exact}
 
-never-in : (d : Draft) → LawfulDraft d → fits (plainOf d) ≡ true → {instants : List (List ℕ)} {ends : List End} → KnownTo d instants →
+never-in : (d : Draft) → LawfulDraft d → fits (plainOf d) ≡ true → {instants : List (List ℕ)} {ends : List End} → InputsKnown (d .tokens) instants →
     Chain d (startCopies d) instants ends → NeverWatched d (plainOf d) instants → NeverIn d ends
 never-in d law fit known chain never l s m t watches =
     chain-without (plain-carries d law fit) t chain (plain.rootOf (plainOf d) 0 ∷ []) (λ e k. elim e [ aborted ↦ tt | left l s ↦ tt ]) known
@@ -39,7 +39,7 @@ never-in d law fit known chain never l s m t watches =
     (λ a k. never a k t watches) (left l s) m
 
 module _ {draft before after : List ℕ} {answer : ℕ} (t : Translated draft before after answer) where
-  plays-unwatched : (instants : List (List ℕ)) → KnownTo (decodeDraft draft) instants → NeverWatched (decodeDraft draft) (decode (plainIn after answer)) instants →
+  plays-unwatched : (instants : List (List ℕ)) → InputsKnown (decodeDraft draft .tokens) instants → NeverWatched (decodeDraft draft) (decode (plainIn after answer)) instants →
       history (decode (plainIn after answer)) (startState (decode (plainIn after answer))) instants ≡ unwatchedHistory draft instants
   plays-unwatched instants known never =
       let d = decodeDraft draft in

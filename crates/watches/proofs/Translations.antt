@@ -21,6 +21,7 @@ use Rattle.verdicts.specs.Verdicts as verdicts
 use Rattle.verdicts.proofs.Verdicts.{number-few}
 use Rattle.scorefile.specs.Check.{verdict}
 use Rattle.drafts.specs.Draft.{Draft, LawfulDraft}
+use Rattle.drafts.specs.Chain.{InputsKnown}
 use Rattle.translation.specs.Plain.{plainOf, fits}
 use Rattle.encoding.specs.Encode.{scoreBytes}
 use Rattle.draftfile.specs.DraftFile.{draftVerdict, decodeDraft}
@@ -32,7 +33,7 @@ use Rattle.answer.specs.Replies.{ofTranslation}
 use Rattle.answer.proofs.Replies.{reply-number}
 use Rattle.score.specs.ScoreTranslate.{ScoreTranslate}
 use Rattle.score.proofs.ScoreTranslate.{bytes-below, read}
-use Rattle.watches.specs.Translations.{plainIn, Translated, KnownTo}
+use Rattle.watches.specs.Translations.{plainIn, Translated}
 
 pub record Wrote (draft before after : List ℕ) (answer : ℕ) : Type 0 where
   pub accepted : draftVerdict draft ≡ Accepted
@@ -94,5 +95,5 @@ module _ {draft before after : List ℕ} {answer : ℕ} (t : Translated draft be
   pub plain-decoded : decode (plainIn after answer) ≡ plainOf (decodeDraft draft)
   plain-decoded = ap decode plain-is ∙ plain-read .1
 
-pub taken-known : (d : Draft) (n : ℕ) (instants : List (List ℕ)) → KnownTo d instants → KnownTo d (take n instants)
+pub taken-known : (d : Draft) (n : ℕ) (instants : List (List ℕ)) → InputsKnown (d .tokens) instants → InputsKnown (d .tokens) (take n instants)
 taken-known d n instants known inputs m = known inputs (subst (λ l. List·Memᴰ inputs l) (take-append-drop n instants) (Memᴰ·append-left (drop n instants) m))

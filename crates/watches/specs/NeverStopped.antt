@@ -18,9 +18,10 @@ use Rattle.run.specs.RunCall.{Lent}
 use Rattle.score.specs.ScoreRun.{ScoreRun}
 use Rattle.demands.specs.Calls.{written}
 use Rattle.drafts.specs.Draft.{Draft}
+use Rattle.drafts.specs.Chain.{InputsKnown}
 use Rattle.drafts.specs.Unwatched.{WatchToken, unwatched}
 use Rattle.draftfile.specs.DraftFile.{decodeDraft}
-use Rattle.watches.specs.Translations.{plainIn, Translated, KnownTo}
+use Rattle.watches.specs.Translations.{plainIn, Translated}
 
 abbrev pub NeverWatched : Draft → Score → List (List ℕ) → Type 0
 NeverWatched d sc instants = (a : Answer) → List·Memᴰ a (answers sc (startState sc) instants) → (t : ℕ) → WatchToken d t → List·Memᴰ t (a .store) → ⊥
@@ -31,9 +32,9 @@ unwatchedHistory draft instants = history (unwatched (decodeDraft draft)) (start
 abbrev pub NeverStopped : Type 0
 NeverStopped =
     (draft before after : List ℕ) (answer : ℕ) → Translated draft before after answer →
-    ((instants : List (List ℕ)) → KnownTo (decodeDraft draft) instants → NeverWatched (decodeDraft draft) (decode (plainIn after answer)) instants →
+    ((instants : List (List ℕ)) → InputsKnown (decodeDraft draft .tokens) instants → NeverWatched (decodeDraft draft) (decode (plainIn after answer)) instants →
     history (decode (plainIn after answer)) (startState (decode (plainIn after answer))) instants ≡ unwatchedHistory draft instants)
     × ((inputs : List ℕ) (lent left : Lent) (ran : ℕ) → lent .state ≡ startBytes (decode (plainIn after answer)) →
-    ScoreRun (plainIn after answer) inputs lent left ran → KnownTo (decodeDraft draft) (inputLists inputs) →
+    ScoreRun (plainIn after answer) inputs lent left ran → InputsKnown (decodeDraft draft .tokens) (inputLists inputs) →
     NeverWatched (decodeDraft draft) (decode (plainIn after answer)) (take (written ran) (inputLists inputs)) →
     left .journal ≡ bytesOf (unwatchedHistory draft (take (written ran) (inputLists inputs))) ++ drop (4 * length (unwatchedHistory draft (take (written ran) (inputLists inputs)))) (lent .journal))

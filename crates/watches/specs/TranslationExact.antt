@@ -23,26 +23,26 @@ use Rattle.answer.specs.Answer.{numberIn, valueIn}
 use Rattle.score.specs.ScoreRun.{ScoreRun}
 use Rattle.score.specs.ScoreJournalCheck.{ScoreJournalCheck}
 use Rattle.demands.specs.Calls.{written}
-use Rattle.drafts.specs.Chain.{Journal}
+use Rattle.drafts.specs.Chain.{InputsKnown, Journal}
 use Rattle.draftfile.specs.DraftFile.{decodeDraft}
-use Rattle.watches.specs.Translations.{plainIn, Translated, KnownTo}
+use Rattle.watches.specs.Translations.{plainIn, Translated}
 
 abbrev pub ShowsTheDraft : List ℕ → List ℕ → Type 0
 ShowsTheDraft draft plain =
-    (instants : List (List ℕ)) → KnownTo (decodeDraft draft) instants →
+    (instants : List (List ℕ)) → InputsKnown (decodeDraft draft .tokens) instants →
     ((words : List ℕ) → Journal (decodeDraft draft) instants words → words ≡ history (decode plain) (startState (decode plain)) instants)
     × Journal (decodeDraft draft) instants (history (decode plain) (startState (decode plain)) instants)
 
 abbrev pub RunsAsTheDraft : List ℕ → List ℕ → Type 0
 RunsAsTheDraft draft plain =
     (inputs : List ℕ) (before after : Lent) (answer : ℕ) → before .state ≡ startBytes (decode plain) → ScoreRun plain inputs before after answer →
-    KnownTo (decodeDraft draft) (inputLists inputs) →
+    InputsKnown (decodeDraft draft .tokens) (inputLists inputs) →
     (words : List ℕ) → Journal (decodeDraft draft) (take (written answer) (inputLists inputs)) words →
     after .journal ≡ bytesOf words ++ drop (4 * length words) (before .journal)
 
 abbrev pub ChecksAsTheDraft : List ℕ → List ℕ → Type 0
 ChecksAsTheDraft draft plain =
-    (instants : List (List ℕ)) (words before after : List ℕ) (answer : ℕ) → KnownTo (decodeDraft draft) instants →
+    (instants : List (List ℕ)) (words before after : List ℕ) (answer : ℕ) → InputsKnown (decodeDraft draft .tokens) instants →
     ((l : List ℕ) → List·Memᴰ l instants → RisingBelow (decodeDraft draft .tokens) l) → length instants ≤ lastNumber →
     Journal (decodeDraft draft) instants words → length before ≡ scratchBytes → ScoreJournalCheck plain (bytesOf words) before after answer →
     (numberIn answer ≡ 0) × (valueIn answer ≡ length instants)

@@ -1,12 +1,10 @@
 -- An accepted translation, as its caller has it.
 --     plainIn          the bytes of the plain score: as many as the answer says
 --     Translated       the call meets the contract of score_translate and answers 0
---     KnownTo          a list of instants over a draft's tokens
 use mathlib.Core.Path.{_≡_}
-use mathlib.Core.List.{List, List·Memᴰ}
-use Prim.Native.Nat.{ℕ, _<_}
+use mathlib.Core.List.{List}
+use Prim.Native.Nat.{ℕ}
 use lib.ListN.{take}
-use Rattle.drafts.specs.Draft.{Draft}
 use Rattle.answer.specs.Answer.{numberIn, valueIn}
 use Rattle.score.specs.ScoreTranslate.{ScoreTranslate}
 
@@ -16,6 +14,3 @@ plainIn after answer = take (valueIn answer) after
 pub record Translated (draft before after : List ℕ) (answer : ℕ) : Type 0 where
   pub called : ScoreTranslate draft before after answer
   pub accepted : numberIn answer ≡ 0
-
-abbrev pub KnownTo : Draft → List (List ℕ) → Type 0
-KnownTo d instants = (inputs : List ℕ) → List·Memᴰ inputs instants → (t : ℕ) → List·Memᴰ t inputs → t < d .tokens
