@@ -3,3 +3,4 @@ pub mod Filled
 pub mod Ones
 pub mod Bytes
 pub mod WordBits
+pub mod Put

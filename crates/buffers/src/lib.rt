@@ -2,7 +2,6 @@
 ghost use mathlib.Core.Path.{_≡_};
 ghost use mathlib.Core.Bool.{cond, _||_, not};
 ghost use lib.Dec.{eqb};
-ghost use lib.ListN.{length};
 ghost use Rattle.prepared.specs.Prepared.{PreparedFrom};
 ghost use Rattle.format.specs.Decode.{sizes, decode};
 ghost use Rattle.lent.specs.Lengths.{stateBytes, mapBytes, scratchBytes};

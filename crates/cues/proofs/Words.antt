@@ -25,7 +25,8 @@ use Rattle.lent.specs.Lengths.{stateBytes}
 use Rattle.lent.specs.States.{abortedWord, agentsIn, stateFault, stateOf, agentWords, stateWords, asBytes, instantNumber, numbered, lastNumber, SameButNumber}
 use Rattle.lent.proofs.Agents.{awakeIn, awake-word, agents-from}
 use Rattle.lent.proofs.Faults.{fault-aborted}
-use Rattle.lent.proofs.Round.{words-bytes, stateWords-fit}
+use Rattle.bits.proofs.Bytes.{words-bytes}
+use Rattle.lent.proofs.Round.{stateWords-fit}
 use Rattle.lent.proofs.Numbered.{numbered-head, numbered-length}
 use Rattle.score.specs.Slice.{Slice}
 

@@ -7,4 +7,3 @@ pub mod Lists
 pub mod Places
 pub mod Written
 pub mod ReadBack
-pub mod Put

@@ -33,8 +33,7 @@ use Rattle.faults.specs.Faults.{lengthVerdict, headVerdict, countVerdict, wordV
 use Rattle.circles.specs.Circles.{circleFrom}
 use Rattle.circles.proofs.Circle.{lowest-none}
 use Rattle.scorefile.specs.Check.{verdict}
-use Rattle.bits.proofs.Bytes.{bytesOf-length}
-use Rattle.lent.proofs.Round.{words-bytes}
+use Rattle.bits.proofs.Bytes.{bytesOf-length, words-bytes}
 use Rattle.encoding.specs.Encode.{headWord, portsWord, agentWord, rootWord, ruleWord, scoreWords, scoreBytes, RuleFormed, Written}
 use Rattle.encoding.proofs.WrittenWords.{Made, made-word, made-low, made-small, head-made, head-sizes, ports-made, ports-lowest, ports-highest, AgentFits, AgentRead, agent-read, root-made, RuleRead, rule-read}
 use Rattle.encoding.proofs.Lists.{on-places, place-member, map-back, InParts, in-parts}

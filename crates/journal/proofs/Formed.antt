@@ -18,8 +18,7 @@ use Rattle.laws.proofs.Sets.{Within, on-cons, on-append, on-map}
 use Rattle.words.specs.Word.{words, field, kind}
 use Rattle.format.specs.Format.{isWord}
 use Rattle.bits.specs.Bits.{bytesOf}
-use Rattle.bits.proofs.Bytes.{bytesOf-length}
-use Rattle.lent.proofs.Round.{words-bytes}
+use Rattle.bits.proofs.Bytes.{bytesOf-length, words-bytes}
 use Rattle.form.specs.declared.Form.the-variants.{Good}
 use Rattle.form.specs.Form.{tokenOf, statusOf, isInstant, rises, mayFollow, firstAgainst, formOf}
 use Rattle.parts.specs.Instants.{upTo, instantsIn, tokensOf, inputsIn}

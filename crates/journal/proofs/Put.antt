@@ -1,54 +1,20 @@
 -- Laws of words put into a journal.
---     Put            words put from a word on
---     put-none       no words
---     put-more       further words, after those that were put
 --     listed         the words of a kind for the tokens flagged below t
 --     listed-more, listed-same       put token by token
 --     instant-length     an instant's words: one, and one for each token
 --     instant-put        put in three parts, they stand at the front
 use mathlib.Core.Path.{_≡_, refl, sym, ap, ap₂, _∙_}
 use mathlib.Core.Bool.{Bool, true, false}
-use mathlib.Core.List.{List, [], _∷_, _++_, map, append-assoc, append-nil}
+use mathlib.Core.List.{List, [], _∷_, _++_, map, append-nil}
 use Prim.Native.Nat.{ℕ, _+_, _*_, _^_, _≤_}
 use native.Mathlib.Omega.{arith}
-use lib.ListN.{length, take, drop, length-append, length-map, getD, take-append-drop}
-use lib.Seq.{take-at, drop-append-add, drop-drop, length-take-le}
+use lib.ListN.{length, take, drop, length-append, length-map, getD}
 use Rattle.laws.proofs.Lists.{map-snoc}
 use Rattle.bits.specs.Bits.{bytesOf}
-use Rattle.bits.proofs.Bytes.{bytesOf-length, bytesOf-append}
+use Rattle.bits.specs.Put.{put}
+use Rattle.bits.proofs.Put.{put-more}
 use Rattle.journal.specs.History.{instantWord, inputWord, outputWord, instantWords}
 use Rattle.journal.proofs.Kept.{kept, kept-step}
-
-abbrev pub Put : ℕ → List ℕ → List ℕ → List ℕ
-Put from ws s = take (4 * from) s ++ bytesOf ws ++ drop (4 * (from + length ws)) s
-
-pub put-none : (from : ℕ) (s : List ℕ) → s ≡ Put from [] s
-unfolding bytesOf
-put-none from s =
-    sym (take-append-drop (4 * from) s)
-    ∙ ap₂ (λ l k. l ++ drop (4 * k) s) (sym (append-nil (take (4 * from) s))) (let e : from ≡ from + 0 = omega arith in e)
-
-module _ (from : ℕ) (ws vs s : List ℕ) (i j : ℕ) (here : i ≡ from + length ws) (next : j ≡ i + length vs) (room : 4 * i ≤ length s) where
-  pub put-more : take (4 * i) (Put from ws s) ++ bytesOf vs ++ drop (4 * j) (Put from ws s) ≡ Put from (ws ++ vs) s
-  put-more =
-      ap₂ (λ x y. x ++ bytesOf vs ++ y) (take-at front rest (4 * i) long) later
-      ∙ ap (λ x. x ++ drop (4 * (from + length (ws ++ vs))) s) (append-assoc (take (4 * from) s) (bytesOf ws) (bytesOf vs) ∙ ap (λ x. take (4 * from) s ++ x) (sym (bytesOf-append ws vs)))
-    where
-      front : List ℕ
-      front = take (4 * from) s ++ bytesOf ws
-
-      rest : List ℕ
-      rest = drop (4 * (from + length ws)) s
-
-      long : length front ≡ 4 * i
-      long = omega (arith, length-append (take (4 * from) s) (bytesOf ws), length-take-le (4 * from) s (omega arith), bytesOf-length ws)
-
-      later : drop (4 * j) (front ++ rest) ≡ drop (4 * (from + length (ws ++ vs))) s
-      later =
-          ap (λ k. drop k (front ++ rest)) (let e : 4 * j ≡ length front + 4 * length vs = omega (arith, long) in e)
-          ∙ drop-append-add front rest (4 * length vs)
-          ∙ drop-drop (4 * length vs) (4 * (from + length ws)) s
-          ∙ ap (λ k. drop k s) (let e : 4 * (from + length ws) + 4 * length vs ≡ 4 * (from + length (ws ++ vs)) = omega (arith, length-append ws vs) in e)
 
 -- the words of a kind for the tokens flagged below t
 abbrev pub listed : ℕ → List Bool → ℕ → List ℕ
@@ -56,19 +22,19 @@ listed kind flags t = map (λ u. kind * 2 ^ 28 + u) (kept flags t)
 
 module _ (from kind : ℕ) (flags : List Bool) (t : ℕ) (s : List ℕ) where
   pub listed-more : getD flags t false ≡ true → (at w : ℕ) (now next : List ℕ) → at ≡ from + length (kept flags t) → w ≡ kind * 2 ^ 28 + t → 4 * at ≤ length s
-      → now ≡ Put from (listed kind flags t) s → next ≡ take (4 * at) now ++ bytesOf (w ∷ []) ++ drop (4 * at + 4) now → next ≡ Put from (listed kind flags (t + 1)) s
-  listed-more set at w now next here word room before put =
-      put
+      → now ≡ put from (listed kind flags t) s → next ≡ take (4 * at) now ++ bytesOf (w ∷ []) ++ drop (4 * at + 4) now → next ≡ put from (listed kind flags (t + 1)) s
+  listed-more set at w now next here word room before put-word =
+      put-word
       ∙ ap₂ (λ x l. take (4 * at) l ++ bytesOf (x ∷ []) ++ drop (4 * at + 4) l) word before
       ∙ ap (λ k. take (4 * at) old ++ bytesOf ((kind * 2 ^ 28 + t) ∷ []) ++ drop k old) (let e : 4 * at + 4 ≡ 4 * (at + 1) = omega arith in e)
       ∙ put-more from (listed kind flags t) ((kind * 2 ^ 28 + t) ∷ []) s at (at + 1) (omega (arith, length-map (kept flags t) (λ u. kind * 2 ^ 28 + u))) refl room
-      ∙ ap (λ l. Put from l s) (sym (ap (map (λ u. kind * 2 ^ 28 + u)) (kept-step flags t true set) ∙ map-snoc (λ u. kind * 2 ^ 28 + u) (kept flags t) t))
+      ∙ ap (λ l. put from l s) (sym (ap (map (λ u. kind * 2 ^ 28 + u)) (kept-step flags t true set) ∙ map-snoc (λ u. kind * 2 ^ 28 + u) (kept flags t) t))
     where
       old : List ℕ
-      old = Put from (listed kind flags t) s
+      old = put from (listed kind flags t) s
 
-  pub listed-same : getD flags t false ≡ false → Put from (listed kind flags t) s ≡ Put from (listed kind flags (t + 1)) s
-  listed-same clear = ap (λ l. Put from (map (λ u. kind * 2 ^ 28 + u) l) s) (sym (kept-step flags t false clear ∙ append-nil (kept flags t)))
+  pub listed-same : getD flags t false ≡ false → put from (listed kind flags t) s ≡ put from (listed kind flags (t + 1)) s
+  listed-same clear = ap (λ l. put from (map (λ u. kind * 2 ^ 28 + u) l) s) (sym (kept-step flags t false clear ∙ append-nil (kept flags t)))
 
 pub instant-length : (status : ℕ) (inputs outputs : List ℕ) → length (instantWords status inputs outputs) ≡ 1 + length inputs + length outputs
 unfolding instantWords
@@ -96,10 +62,10 @@ module _ (status : ℕ) (inputs outputs : List ℕ) (s : List ℕ) (room : 4 * l
       long : length words ≡ 1 + length inputs + length outputs
       long = instant-length status inputs outputs
 
-      with-status : first ≡ Put 0 (instantWord status ∷ []) s
-      with-status = one ∙ ap (λ x. Put 0 (x ∷ []) s) word
+      with-status : first ≡ put 0 (instantWord status ∷ []) s
+      with-status = one ∙ ap (λ x. put 0 (x ∷ []) s) word
 
-      with-inputs : second ≡ Put 0 (instantWord status ∷ map inputWord inputs) s
+      with-inputs : second ≡ put 0 (instantWord status ∷ map inputWord inputs) s
       with-inputs =
           two
           ∙ ap (λ l. take (4 * 1) l ++ bytesOf (map inputWord inputs) ++ drop (4 * (1 + length inputs)) l) with-status

@@ -1,1 +1,1 @@
-// Plain laws of booleans, lists and sets as lists, for all crates above; no code.
+// Plain laws of booleans, lists, sets as lists and rising lists, for all crates above; no code.

@@ -24,11 +24,11 @@ use Rattle.tcc.specs.Instant.{State, running, aborted, Answer, after}
 use Rattle.words.specs.Word.{joined, wordAt}
 use Rattle.words.proofs.Words.{words-length, word-joined}
 use Rattle.bits.specs.Bits.{bitAt, bytesOf}
-use Rattle.bits.proofs.Bytes.{bytesOf-length, bytesOf-append}
+use Rattle.bits.proofs.Bytes.{bytesOf-length, bytesOf-append, words-bytes}
 use Rattle.lent.specs.Lengths.{unnumberedBytes, stateBytes}
 use Rattle.lent.specs.States.{runningWord, abortedWord, agentsIn, stateFault, stateOf, stateWords, asBytes, instantNumber, numbered, nextBytes, lastNumber, SameButNumber, LawfulState, SameState}
 use Rattle.lent.proofs.Gathered.{number-put}
-use Rattle.lent.proofs.Round.{words-bytes, stateWords-length, stateWords-fit, asBytes-length, asBytes-same, state-round}
+use Rattle.lent.proofs.Round.{stateWords-length, stateWords-fit, asBytes-length, asBytes-same, state-round}
 
 abbrev pub SameHead : List ℕ → List ℕ → Type 0
 SameHead s t = (i : ℕ) → i < 33 → wordAt s i ≡ wordAt t i

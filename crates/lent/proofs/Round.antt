@@ -1,5 +1,4 @@
 -- States, read back from the bytes that they are written as.
---     words-bytes        the words of the bytes of words are those words
 --     agentWords-length  the words of a set of agents
 --     stateWords-length, stateWords-fit     the words of a state
 --     asBytes-length     its bytes
@@ -8,44 +7,28 @@
 --     state-round        bytes written for a state stand for it
 --     lawful-bytes       bytes written for a lawful state have no fault
 --     faultless-lawful   bytes without fault stand for a lawful state
-use mathlib.Core.Path.{_≡_, refl, sym, ap, ap₂, _∙_}
+use mathlib.Core.Path.{_≡_, refl, sym, ap, _∙_}
 use mathlib.Core.Bool.{Bool, true, false, cond, not, _&&_, _||_}
-use mathlib.Core.List.{List, [], _∷_, List·Memᴰ, List·Memᴰ·head, List·Memᴰ·tail, List·Memᴰ·not-nil}
+use mathlib.Core.List.{List, [], _∷_, List·Memᴰ, List·Memᴰ·not-nil}
 use Prim.Native.Nat.{ℕ, suc, _+_, _*_, _/_, _%_, _^_, _<_, _≤_}
 use borrow.Author.Tests.{leb-true, le-leb}
 use native.Mathlib.Decide.{decLt}
 use native.Mathlib.Omega.{arith}
 use lib.Dec.{eqb, leb}
 use lib.ListN.{length, getD, length-map}
-use lib.Pow.{shr-mod, shr-shr, split}
 use Rattle.laws.specs.Sets.{Same, below, keep, any, has}
 use Rattle.laws.proofs.Booleans.{true-is-false}
 use Rattle.laws.proofs.Lists.{map-at, map-same}
 use Rattle.laws.proofs.Sets.{Within, any-some, some-any, on-keep, keep-kept, on-cons, on-map, lt-below, has-member, member-has, has-same, below-length, below-at}
 use Rattle.tcc.specs.Instant.{State, running, aborted}
-use Rattle.words.specs.Word.{joined, words, wordAt}
+use Rattle.words.specs.Word.{words, wordAt}
 use Rattle.bits.specs.Bits.{bitAt, bitsValue, bytesOf}
 use Rattle.bits.proofs.Bits.{bitsValue-below, bitsValue-same, bitsValue-bit}
-use Rattle.bits.proofs.Bytes.{bytesOf-length}
+use Rattle.bits.proofs.Bytes.{bytesOf-length, words-bytes}
 use Rattle.lent.specs.Lengths.{unnumberedBytes}
 use Rattle.lent.specs.States.{runningWord, abortedWord, agentsIn, stateFault, stateOf, agentWords, stateWords, asBytes, LawfulState, SameState}
 use Rattle.lent.proofs.Agents.{awakeIn, agents-within}
 use Rattle.lent.proofs.Faults.{fault-running, fault-aborted}
-
-by-digits : (w x y z a b c : ℕ) → x * 2 ^ 8 + a ≡ w → y * 2 ^ 8 + b ≡ x → z * 2 ^ 8 + c ≡ y → joined a b c z ≡ w
-by-digits w x y z a b c p q r = omega arith
-
-rejoined : (w : ℕ) → w < 2 ^ 32 → joined (w % 2 ^ 8) (w / 2 ^ 8 % 2 ^ 8) (w / 2 ^ 16 % 2 ^ 8) (w / 2 ^ 24 % 2 ^ 8) ≡ w
-rejoined w h =
-    ap (joined (w % 2 ^ 8) (w / 2 ^ 8 % 2 ^ 8) (w / 2 ^ 16 % 2 ^ 8)) (shr-mod {n = w} 8 24 h)
-    ∙ by-digits w (w / 2 ^ 8) (w / 2 ^ 16) (w / 2 ^ 24) (w % 2 ^ 8) (w / 2 ^ 8 % 2 ^ 8) (w / 2 ^ 16 % 2 ^ 8) (split w 8)
-    (ap (λ x. x * 2 ^ 8 + w / 2 ^ 8 % 2 ^ 8) (sym (shr-shr w 8 8)) ∙ split (w / 2 ^ 8) 8)
-    (ap (λ x. x * 2 ^ 8 + w / 2 ^ 16 % 2 ^ 8) (sym (shr-shr w 16 8)) ∙ split (w / 2 ^ 16) 8)
-
-pub words-bytes : (ws : List ℕ) → Within (λ w. w < 2 ^ 32) ws → words (bytesOf ws) ≡ ws
-unfolding words bytesOf
-words-bytes [] h = refl
-words-bytes (w ∷ ws) h = ap₂ _∷_ (rejoined w (h w (List·Memᴰ·head refl))) (words-bytes ws (λ x m. h x (List·Memᴰ·tail m)))
 
 -- ---- the words of a set of agents
 

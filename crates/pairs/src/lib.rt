@@ -1,1 +1,1 @@
-// Sets of tokens and pairs as numbers, rising lists: definitions and laws, no code.
+// Sets of tokens and pairs as numbers, numbers put into rising lists: definitions and laws, no code.

@@ -1,8 +1,7 @@
 // A table of pairs in rising order.
 ghost use mathlib.Core.Path.{_≡_};
 ghost use Prim.Native.Nat.{_+_, _<_, _≤_};
-ghost use lib.ListN.{length, take, drop};
-ghost use mathlib.Core.List.{_++_};
+ghost use lib.ListN.{length};
 ghost use Rattle.laws.specs.Rising.{Rising};
 ghost use Rattle.pairs.specs.Pairs.{mostPairs};
 ghost use Rattle.rows.specs.Rows.{rowValue};

@@ -21,8 +21,8 @@ use Rattle.tcc.specs.Closure.{Rule}
 use Rattle.bits.specs.Bits.{bytesOf}
 use Rattle.drafts.proofs.Carries.{memberRule}
 use Rattle.encoding.specs.Encode.{ruleWord}
-use Rattle.encoding.specs.Put.{put}
-use Rattle.encoding.proofs.Put.{put-then, put-next}
+use Rattle.bits.specs.Put.{put}
+use Rattle.bits.proofs.Put.{put-then, put-next}
 use Rattle.pairs.specs.TokenSets.{holds, members}
 use Rattle.pairs.proofs.TokenSets.{holds-member}
 use Rattle.translation.specs.Plain.{memberRules}

@@ -10,7 +10,7 @@ ghost use Rattle.pairs.specs.Pairs.{setIn};
 ghost use Rattle.rows.specs.Rows.{rowValue};
 ghost use Rattle.translation.specs.Plain.{memberRules};
 ghost use Rattle.encoding.specs.Encode.{ruleWord};
-ghost use Rattle.encoding.specs.Put.{put};
+ghost use Rattle.bits.specs.Put.{put};
 ghost use Rattle.draftfile.specs.DraftFile.{decodeDraft};
 ghost use Rattle.gathered.specs.Gathered.{Gathered, setsIn};
 ghost use Rattle.plainrules.specs.SetRules.{setRules};

@@ -10,7 +10,7 @@ ghost use Rattle.rows.specs.Rows.{rowValue};
 ghost use Rattle.translation.specs.Places as places;
 ghost use Rattle.translation.specs.Plain.{plainOf};
 ghost use Rattle.encoding.specs.Encode.{agentWord, rootWord};
-ghost use Rattle.encoding.specs.Put.{put};
+ghost use Rattle.bits.specs.Put.{put};
 ghost use Rattle.draftfile.specs.DraftFile.{decodeDraft};
 ghost use Rattle.gathered.specs.Gathered.{Gathered, agentsIn, proceduresIn};
 use gathered::Counts;

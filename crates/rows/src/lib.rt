@@ -1,8 +1,8 @@
 // A pair of the translation as five numbers: its set asked and added to, pairs compared.
 ghost use mathlib.Core.Path.{_≡_};
 ghost use mathlib.Core.Bool.{true};
-ghost use Prim.Native.Nat.{ℕ, _^_, _<_, _≤_};
-ghost use lib.Dec.{ltb, eqb};
+ghost use Prim.Native.Nat.{ℕ, _<_, _≤_};
+ghost use lib.Dec.{ltb};
 ghost use lib.ListN.{length};
 ghost use Rattle.pairs.specs.TokenSets.{holds, with, members};
 ghost use Rattle.pairs.specs.Pairs.{pair, numberIn, setIn};

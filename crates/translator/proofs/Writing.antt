@@ -31,8 +31,8 @@ use Rattle.encoding.specs.Encode.{headWord, portsWord, agentWord, rootWord, rul
 use Rattle.encoding.proofs.ReadWords.{ports-again}
 use Rattle.encoding.proofs.ReadBack.{ports-formed}
 use Rattle.encoding.proofs.Written.{word-count}
-use Rattle.encoding.specs.Put.{put}
-use Rattle.encoding.proofs.Put.{put-then, put-next}
+use Rattle.bits.specs.Put.{put}
+use Rattle.bits.proofs.Put.{put-then, put-next}
 use Rattle.draftfile.specs.DraftFile.{asWhens, draftVerdict, decodeDraft}
 use Rattle.draftfile.proofs.Draft.{words-kept}
 use Rattle.gathered.specs.declared.Counts.{Counts}

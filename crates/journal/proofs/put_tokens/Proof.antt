@@ -1,5 +1,5 @@
 -- `journal::put_tokens`: the words of the tokens below t are put.
-use mathlib.Core.Path.{_≡_, refl, ap, _∙_}
+use mathlib.Core.Path.{_≡_, refl, sym, ap, _∙_}
 use mathlib.Core.Bool.{true, false}
 use mathlib.Core.List.{map, _++_}
 use Prim.Native.Nat.{_+_, _*_, _-_, _^_, _≤_, _<_}
@@ -9,13 +9,15 @@ use lib.ListN.{length, take, drop, length-map}
 use Rattle.flags.specs.Flags.{setOf}
 use Rattle.bits.specs.Bits.{bytesOf}
 use Rattle.journal.proofs.Kept.{kept, kept-count, kept-all, kept-room}
-use Rattle.journal.proofs.Put.{Put, put-none, listed, listed-more, listed-same}
+use Rattle.bits.specs.Put.{put}
+use Rattle.bits.proofs.Put.{put-none}
+use Rattle.journal.proofs.Put.{listed, listed-more, listed-same}
 use Rattle.journal.proofs.put_tokens.Statement.{statement}
 use Rattle.journal.proofs.put_tokens.Tie as tie
 
 abbrev Inv-loop : tie.InvT-loop
 Inv-loop journal₀ from kind tokens set at₀ t₀ journal at t =
-    (t ≤ tokens) × (length journal ≡ length journal₀) × (at ≡ from + length (kept set t)) × (journal ≡ Put from (listed kind set t) journal₀)
+    (t ≤ tokens) × (length journal ≡ length journal₀) × (at ≡ from + length (kept set t)) × (journal ≡ put from (listed kind set t) journal₀)
 
 abbrev μ-loop : tie.MeasureT-loop
 μ-loop journal₀ from kind tokens set at₀ t₀ journal at t = tokens - t
@@ -29,7 +31,7 @@ to-token c = c .before .before .before .before .before
 
 loop-holds : tie.Need-loop-holds Inv-loop μ-loop
 unfolding kept
-loop-holds c = let a = c .before .before .args in (omega arith, refl, omega arith, put-none (a .from) (a .journal .now))
+loop-holds c = let a = c .before .before .args in (omega arith, refl, omega arith, sym (put-none (a .from) (a .journal .now)))
 
 add-t : tie.Need-add-t Inv-loop μ-loop
 add-t c = search needs

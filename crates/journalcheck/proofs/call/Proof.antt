@@ -1,7 +1,6 @@
 -- `call`: each test in the order of the table, then the instants.
 use mathlib.Core.Path.{_≡_, sym, ap, _∙_}
 use borrow.Author.Needs.{needs}
-use native.Mathlib.Omega.{arith}
 use mathlib.Core.Bool.{true}
 use lib.ListN.{replicate}
 use Rattle.format.specs.Decode.{sizes}

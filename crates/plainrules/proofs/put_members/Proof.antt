@@ -11,8 +11,8 @@ use Rattle.pairs.specs.TokenSets.{members}
 use Rattle.pairs.specs.Pairs.{setIn}
 use Rattle.rows.specs.Rows.{rowValue}
 use Rattle.encoding.specs.Encode.{ruleWord}
-use Rattle.encoding.specs.Put.{put}
-use Rattle.encoding.proofs.Put.{put-none}
+use Rattle.bits.specs.Put.{put}
+use Rattle.bits.proofs.Put.{put-none}
 use Rattle.translation.specs.Plain.{memberRules}
 use Rattle.gathered.specs.Gathered.{setsIn}
 use Rattle.plainrules.specs.SetRules.{setRules}

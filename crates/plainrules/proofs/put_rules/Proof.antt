@@ -6,7 +6,7 @@ use native.Mathlib.Omega.{arith}
 use lib.ListN.{length}
 use Rattle.format.specs.Format.{ruleOf}
 use Rattle.encoding.specs.Encode.{ruleWord}
-use Rattle.encoding.proofs.Put.{Putting, putting-none, putting-more, putting-all}
+use Rattle.bits.proofs.Put.{Putting, putting-none, putting-more, putting-all}
 use Rattle.draftfile.specs.DraftFile.{decodeDraft}
 use Rattle.plainrules.proofs.Rules.{Ruled, gathered-rules}
 use Rattle.plainrules.proofs.put_rules.Statement.{statement}

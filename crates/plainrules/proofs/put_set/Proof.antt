@@ -9,8 +9,8 @@ use lib.ListN.{length}
 use Rattle.pairs.specs.TokenSets.{holds, members}
 use Rattle.pairs.specs.Pairs.{setIn}
 use Rattle.rows.specs.Rows.{rowValue}
-use Rattle.encoding.specs.Put.{put}
-use Rattle.encoding.proofs.Put.{put-none}
+use Rattle.bits.specs.Put.{put}
+use Rattle.bits.proofs.Put.{put-none}
 use Rattle.plainrules.proofs.Members.{ruleWords, heldBelow, held-same, held-count, held-put, held-all, held-room}
 use Rattle.plainrules.proofs.put_set.Statement.{statement}
 use Rattle.plainrules.proofs.put_set.Tie as tie

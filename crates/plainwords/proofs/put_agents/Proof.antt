@@ -8,7 +8,7 @@ use Rattle.tcc.specs.Score.{agentAt}
 use Rattle.tcc.specs.declared.Agent.the-variants.{Skip}
 use Rattle.translation.specs.Plain.{plainOf}
 use Rattle.encoding.specs.Encode.{agentWord}
-use Rattle.encoding.proofs.Put.{Putting, putting-none, putting-more, putting-all}
+use Rattle.bits.proofs.Put.{Putting, putting-none, putting-more, putting-all}
 use Rattle.draftfile.specs.DraftFile.{decodeDraft}
 use Rattle.plainwords.proofs.Pairs.{agents-few, agents-many, agent-entry, agent-here, AgentFits, agent-fits}
 use Rattle.plainwords.proofs.put_agents.Statement.{statement}

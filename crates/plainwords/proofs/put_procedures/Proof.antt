@@ -7,7 +7,7 @@ use lib.ListN.{length}
 use Rattle.tcc.specs.Score.{rootOf}
 use Rattle.translation.specs.Plain.{plainOf}
 use Rattle.encoding.specs.Encode.{rootWord}
-use Rattle.encoding.proofs.Put.{Putting, putting-none, putting-more, putting-all}
+use Rattle.bits.proofs.Put.{Putting, putting-none, putting-more, putting-all}
 use Rattle.draftfile.specs.DraftFile.{decodeDraft}
 use Rattle.plainwords.proofs.Pairs.{procedures-many, root-entry, root-here, root-fits}
 use Rattle.plainwords.proofs.put_procedures.Statement.{statement}

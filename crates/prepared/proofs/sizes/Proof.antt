@@ -1,5 +1,5 @@
 -- `sizes`: the three numbers.
-use mathlib.Core.Path.{_≡_, refl, ap}
+use mathlib.Core.Path.{_≡_}
 use borrow.Author.Needs.{needs}
 use Prim.Native.Nat.{ℕ}
 use Rattle.format.specs.declared.Sizes.{Sizes}

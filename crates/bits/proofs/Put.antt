@@ -1,26 +1,50 @@
 -- Laws of words put into bytes.
 --     put-none           no words
+--     put-more           further words, after those that were put
 --     put-length         as many bytes
 --     put-then           further words, right after those that were put
 --     put-next           one word more, as `bits::put_word` puts it
 --     Putting            the words of the first k entries of a list are put
 --     putting-none, putting-more, putting-all      none yet, one more, all
 use mathlib.Core.Path.{_≡_, refl, sym, ap, ap₂, _∙_}
-use mathlib.Core.List.{List, [], _∷_, _++_, map}
+use mathlib.Core.List.{List, [], _∷_, _++_, map, append-assoc, append-nil}
 use Prim.Native.Nat.{ℕ, _+_, _*_, _<_, _≤_}
 use native.Mathlib.Numerals.{add-one}
 use native.Mathlib.Omega.{arith}
-use lib.ListN.{length, take, drop, getD, length-append, length-drop, length-map}
-use lib.Seq.{length-take-le, take-suc, take-all}
+use lib.ListN.{length, take, drop, getD, length-append, length-drop, length-map, take-append-drop}
+use lib.Seq.{length-take-le, take-suc, take-all, take-at, drop-append-add, drop-drop}
 use Rattle.laws.proofs.Lists.{map-snoc}
 use Rattle.bits.specs.Bits.{bytesOf}
-use Rattle.bits.proofs.Bytes.{bytesOf-length}
-use Rattle.journal.proofs.Put.{put-more}
-use Rattle.journal.proofs.Put as journal
-use Rattle.encoding.specs.Put.{put}
+use Rattle.bits.proofs.Bytes.{bytesOf-length, bytesOf-append}
+use Rattle.bits.specs.Put.{put}
 
-pub put-none : (from : ℕ) (bytes : List ℕ) → put from [] bytes ≡ bytes
-put-none from bytes = sym (journal.put-none from bytes)
+pub put-none : (from : ℕ) (s : List ℕ) → put from [] s ≡ s
+unfolding bytesOf
+put-none from s =
+    ap₂ (λ l k. l ++ drop (4 * k) s) (append-nil (take (4 * from) s)) (let e : from + 0 ≡ from = omega arith in e)
+    ∙ take-append-drop (4 * from) s
+
+module _ (from : ℕ) (ws vs s : List ℕ) (i j : ℕ) (here : i ≡ from + length ws) (next : j ≡ i + length vs) (room : 4 * i ≤ length s) where
+  pub put-more : take (4 * i) (put from ws s) ++ bytesOf vs ++ drop (4 * j) (put from ws s) ≡ put from (ws ++ vs) s
+  put-more =
+      ap₂ (λ x y. x ++ bytesOf vs ++ y) (take-at front rest (4 * i) long) later
+      ∙ ap (λ x. x ++ drop (4 * (from + length (ws ++ vs))) s) (append-assoc (take (4 * from) s) (bytesOf ws) (bytesOf vs) ∙ ap (λ x. take (4 * from) s ++ x) (sym (bytesOf-append ws vs)))
+    where
+      front : List ℕ
+      front = take (4 * from) s ++ bytesOf ws
+
+      rest : List ℕ
+      rest = drop (4 * (from + length ws)) s
+
+      long : length front ≡ 4 * i
+      long = omega (arith, length-append (take (4 * from) s) (bytesOf ws), length-take-le (4 * from) s (omega arith), bytesOf-length ws)
+
+      later : drop (4 * j) (front ++ rest) ≡ drop (4 * (from + length (ws ++ vs))) s
+      later =
+          ap (λ k. drop k (front ++ rest)) (let e : 4 * j ≡ length front + 4 * length vs = omega (arith, long) in e)
+          ∙ drop-append-add front rest (4 * length vs)
+          ∙ drop-drop (4 * length vs) (4 * (from + length ws)) s
+          ∙ ap (λ k. drop k s) (let e : 4 * (from + length ws) + 4 * length vs ≡ 4 * (from + length (ws ++ vs)) = omega (arith, length-append ws vs) in e)
 
 module _ (from : ℕ) (xs bytes : List ℕ) where
   pub put-length : 4 * (from + length xs) ≤ length bytes → length (put from xs bytes) ≡ length bytes
