@@ -1,4 +1,4 @@
-/* answers.c: reads answers, packed here as crates/answer/specs/Answer.antt says, and the numbers of states, by the
+/* answers.c: reads answers, packed here as crates/score_answer/specs/Answer.antt says, and the numbers of states, by the
  * functions of the header.
  */
 #include <stdio.h>

@@ -20,10 +20,10 @@ use Rattle.format.specs.declared.Sizes.{Sizes}
 use Rattle.format.specs.declared.Decoded.{Decoded}
 use Rattle.format.specs.declared.Decoded.the-variants.{Whole, Malformed}
 use Rattle.format.specs.Format.{decodeAgent, agentIn}
-use Rattle.verdicts.specs.declared.Verdict.the-variants.{Accepted, Form}
-use Rattle.verdicts.proofs.Verdicts.{refused, both-accepted}
-use Rattle.wordfaults.specs.WordFaults.{atWord, agentVerdict, rootVerdict, ruleVerdict}
-use Rattle.faults.specs.Faults.{lengthVerdict, countVerdict, wordVerdict, firstFault}
+use Rattle.check_verdicts.specs.declared.Verdict.the-variants.{Accepted, Form}
+use Rattle.check_verdicts.proofs.Verdicts.{refused, both-accepted}
+use Rattle.check_words.specs.WordFaults.{atWord, agentVerdict, rootVerdict, ruleVerdict}
+use Rattle.check_faults.specs.Faults.{lengthVerdict, countVerdict, wordVerdict, firstFault}
 
 pub length-fits : (n : ℕ) → 1 ≤ n → n % 4 ≡ 0 → n ≤ 5384 → lengthVerdict n ≡ Accepted
 length-fits n some whole most = rw (ne-eqb n 0 (λ z. omega arith), eq-eqb (n % 4) 0 whole, le-ltb 5384 n most)

@@ -15,15 +15,15 @@ use Rattle.words.specs.Word.{field, words, wordAt}
 use Rattle.format.specs.Format.{isWord, decodeAgent, agentOf, ruleOf}
 use Rattle.format.specs.Decode.{sizes, decode}
 use Rattle.format.proofs.Decode.{decode-agents, decode-roots}
-use Rattle.verdicts.specs.declared.Verdict.the-variants.{Accepted, Head}
-use Rattle.verdicts.specs.Verdicts.{orElse}
-use Rattle.verdicts.proofs.Verdicts.{refused, both-accepted}
-use Rattle.faults.specs.Faults.{lengthVerdict, headVerdict, countVerdict, wordVerdict, firstFault}
-use Rattle.faults.specs.Faultless.{Faultless}
-use Rattle.faults.proofs.Accepted.{word-accepted, rules-formed}
-use Rattle.circles.specs.Circles.{circleFrom}
-use Rattle.scorefile.specs.Check.{verdict}
-use Rattle.scorefile.proofs.Lawful.{accepted-words, accepted-faultless}
+use Rattle.check_verdicts.specs.declared.Verdict.the-variants.{Accepted, Head}
+use Rattle.check_verdicts.specs.Verdicts.{orElse}
+use Rattle.check_verdicts.proofs.Verdicts.{refused, both-accepted}
+use Rattle.check_faults.specs.Faults.{lengthVerdict, headVerdict, countVerdict, wordVerdict, firstFault}
+use Rattle.check_faults.specs.Faultless.{Faultless}
+use Rattle.check_faults.proofs.Accepted.{word-accepted, rules-formed}
+use Rattle.check_circles.specs.Circles.{circleFrom}
+use Rattle.check_score.specs.Check.{verdict}
+use Rattle.check_score.proofs.Lawful.{accepted-words, accepted-faultless}
 use Rattle.bits.specs.Bits.{bytesOf}
 use Rattle.encoding.specs.Encode.{headWord, agentWord, rootWord, ruleWord, scoreWords, ReadBack}
 use Rattle.encoding.proofs.ReadWords.{head-again, ports-again, agent-again, root-again, rule-again}

@@ -26,13 +26,13 @@ use Rattle.words.specs.Word.{field, words, wordAt}
 use Rattle.format.specs.declared.Sizes.{Sizes}
 use Rattle.format.specs.Format.{sizesOf, agentIn, agentOf, isRule, ruleOf}
 use Rattle.format.specs.Decode.{sizes, decode}
-use Rattle.verdicts.specs.declared.Verdict.the-variants.{Accepted, Head}
-use Rattle.verdicts.specs.Verdicts.{orElse}
-use Rattle.wordfaults.specs.WordFaults.{atWord, agentVerdict}
-use Rattle.faults.specs.Faults.{lengthVerdict, headVerdict, countVerdict, wordVerdict, firstFault}
-use Rattle.circles.specs.Circles.{circleFrom}
-use Rattle.circles.proofs.Circle.{lowest-none}
-use Rattle.scorefile.specs.Check.{verdict}
+use Rattle.check_verdicts.specs.declared.Verdict.the-variants.{Accepted, Head}
+use Rattle.check_verdicts.specs.Verdicts.{orElse}
+use Rattle.check_words.specs.WordFaults.{atWord, agentVerdict}
+use Rattle.check_faults.specs.Faults.{lengthVerdict, headVerdict, countVerdict, wordVerdict, firstFault}
+use Rattle.check_circles.specs.Circles.{circleFrom}
+use Rattle.check_circles.proofs.Circle.{lowest-none}
+use Rattle.check_score.specs.Check.{verdict}
 use Rattle.bits.proofs.Bytes.{bytesOf-length, words-bytes}
 use Rattle.encoding.specs.Encode.{headWord, portsWord, agentWord, rootWord, ruleWord, scoreWords, scoreBytes, RuleFormed, Written}
 use Rattle.encoding.proofs.WrittenWords.{Made, made-word, made-low, made-small, head-made, head-sizes, ports-made, ports-lowest, ports-highest, AgentFits, AgentRead, agent-read, root-made, RuleRead, rule-read}

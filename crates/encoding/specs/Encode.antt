@@ -16,8 +16,8 @@ use Rattle.tcc.specs.Lawful.{Lawful}
 use Rattle.tcc.specs.declared.Agent.{Agent}
 use Rattle.tcc.specs.declared.Agent.the-variants.{Skip, Abort, Tell, Parallel, When, Next, Unless, Call}
 use Rattle.format.specs.Decode.{decode}
-use Rattle.verdicts.specs.declared.Verdict.the-variants.{Accepted}
-use Rattle.scorefile.specs.Check.{verdict}
+use Rattle.check_verdicts.specs.declared.Verdict.the-variants.{Accepted}
+use Rattle.check_score.specs.Check.{verdict}
 use Rattle.bits.specs.Bits.{bytesOf}
 
 -- "T−1 in 7..0, N−1 in 17..8, P−1 in 23..18"

@@ -11,16 +11,16 @@ use Rattle.tcc.specs.Instant.{State, output, answer, after, startState}
 use Rattle.words.specs.Word.{joined, words}
 use Rattle.format.specs.Decode.{decode}
 use Rattle.bits.specs.Bits.{bytesOf}
-use Rattle.parts.specs.Instants.{inputLists}
-use Rattle.journal.specs.History.{inputWord, outputWord, instantWords, history}
-use Rattle.journal.proofs.Histories.{history-words}
-use Rattle.demands.specs.Calls.{written}
-use Rattle.demands.specs.JournalExact.{startHistory}
-use Rattle.demands.proofs.Accepted.{lawful}
-use Rattle.demands.proofs.Runs.{Ended, refused, ran, run-ended, taken-rises}
-use Rattle.demands.proofs.JournalRuns.{run-writes}
-use Rattle.text.specs.Shown.{shown}
-use Rattle.playing.specs.Played.{fromStart}
+use Rattle.journal_instants.specs.Instants.{inputLists}
+use Rattle.journal_words.specs.History.{inputWord, outputWord, instantWords, history}
+use Rattle.journal_words.proofs.Histories.{history-words}
+use Rattle.claims_demands.specs.Calls.{written}
+use Rattle.claims_demands.specs.JournalExact.{startHistory}
+use Rattle.claims_demands.proofs.Accepted.{lawful}
+use Rattle.claims_demands.proofs.Runs.{Ended, refused, ran, run-ended, taken-rises}
+use Rattle.claims_demands.proofs.JournalRuns.{run-writes}
+use Rattle.runner_text.specs.Shown.{shown}
+use Rattle.runner_run.specs.Played.{fromStart}
 use Rattle.runner.specs.Printed.{Printed}
 
 -- zeros

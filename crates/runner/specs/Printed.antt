@@ -6,10 +6,10 @@ use mathlib.Core.List.{List}
 use Prim.Native.Nat.{ℕ}
 use lib.ListN.{replicate}
 use Rattle.words.specs.Word.{words}
-use Rattle.demands.specs.Calls.{written}
-use Rattle.demands.specs.JournalExact.{startHistory}
-use Rattle.text.specs.Shown.{shown}
-use Rattle.playing.specs.Played.{Played}
+use Rattle.claims_demands.specs.Calls.{written}
+use Rattle.claims_demands.specs.JournalExact.{startHistory}
+use Rattle.runner_text.specs.Shown.{shown}
+use Rattle.runner_run.specs.Played.{Played}
 
 abbrev pub Printed : Type 0
 Printed =

@@ -14,7 +14,7 @@ fn main() {
     let mut inputs = [0u8; INPUTS_ROOM];
     let input_bytes = read_file(b"inputs", &mut inputs);
     let mut journal = [0u8; 65536];
-    let number = playing::play(&score[..score_bytes], &inputs[..input_bytes], &mut journal);
+    let number = runner_run::play(&score[..score_bytes], &inputs[..input_bytes], &mut journal);
     print_journal(&journal);
     print_refusal(number);
 }
@@ -53,7 +53,7 @@ fn read_all(fd: i32, buf: &mut [u8]) -> usize
 
 // Prints the words of a journal that was written over zeros.
 fn print_journal(journal: &[u8]) {
-    let count = text::shown_words(journal);
+    let count = runner_text::shown_words(journal);
     let mut k = 0;
     while k < count {
         print_line(words::word_at(journal, k));
@@ -62,7 +62,7 @@ fn print_journal(journal: &[u8]) {
 }
 
 fn print_line(w: u32) {
-    let line = text::line(w);
+    let line = runner_text::line(w);
     io::write_all(STDOUT_FILENO, &line);
 }
 

@@ -5,13 +5,13 @@
 use mathlib.Core.Path.{_≡_, sym, ap, _∙_}
 use mathlib.Core.List.{List}
 use Prim.Native.Nat.{ℕ}
-use Rattle.verdicts.specs.Verdicts as verdicts
-use Rattle.verdicts.proofs.Verdicts.{number-few, verdict-settled}
-use Rattle.scorefile.specs.Check.{verdict}
-use Rattle.scorefile.proofs.Values.{verdict-small}
-use Rattle.answer.specs.Answer.{reply, numberIn, valueIn}
-use Rattle.answer.proofs.Answer.{exact}
-use Rattle.answer.proofs.Replies.{reply-number, reply-value, reply-fits}
+use Rattle.check_verdicts.specs.Verdicts as verdicts
+use Rattle.check_verdicts.proofs.Verdicts.{number-few, verdict-settled}
+use Rattle.check_score.specs.Check.{verdict}
+use Rattle.check_score.proofs.Values.{verdict-small}
+use Rattle.score_answer.specs.Answer.{reply, numberIn, valueIn}
+use Rattle.score_answer.proofs.Answer.{exact}
+use Rattle.score_answer.proofs.Replies.{reply-number, reply-value, reply-fits}
 use Rattle.score.specs.CheckCall.{CheckCall, OneExit, OneAnswer}
 
 pub one-exit : OneExit

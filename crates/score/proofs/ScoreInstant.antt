@@ -21,21 +21,21 @@ use Rattle.tcc.specs.Instant.{State as Between, running, aborted, Answer, count
 use Rattle.tcc.proofs.Status.{answer-status}
 use Rattle.format.specs.Decode.{sizes, decode}
 use Rattle.format.proofs.Decode.{sizes-few}
-use Rattle.verdicts.specs.declared.Verdict.{Verdict}
-use Rattle.verdicts.specs.declared.Verdict.the-variants.{Accepted}
-use Rattle.verdicts.specs.Verdicts as verdicts
-use Rattle.verdicts.proofs.Verdicts.{number-few, verdict-settled}
-use Rattle.scorefile.specs.Check.{verdict}
-use Rattle.scorefile.proofs.Values.{verdict-small}
+use Rattle.check_verdicts.specs.declared.Verdict.{Verdict}
+use Rattle.check_verdicts.specs.declared.Verdict.the-variants.{Accepted}
+use Rattle.check_verdicts.specs.Verdicts as verdicts
+use Rattle.check_verdicts.proofs.Verdicts.{number-few, verdict-settled}
+use Rattle.check_score.specs.Check.{verdict}
+use Rattle.check_score.proofs.Values.{verdict-small}
 use Rattle.lent.specs.States.{stateFault, stateOf, asBytes, atLast}
-use Rattle.maps.specs.Maps.{tokensIn}
-use Rattle.instant.specs.declared.Reply.{Reply as Replied}
-use Rattle.instant.specs.declared.Reply.the-variants.{Score as Turned, Lengths, State, Input, Last, Next, Settled}
-use Rattle.instant.specs.InstantCall.{Lent, Exit, lengthFault, tokenFault, kept, exit, InstantCall}
-use Rattle.answer.specs.Answer.{numberOf, valueOf, statusOf, countOf, Fits, packed, Reads}
-use Rattle.answer.specs.Replies.{ofReply}
-use Rattle.answer.proofs.Answer.{exact}
-use Rattle.answer.proofs.Replies.{reply-number, reply-value, reply-fits}
+use Rattle.lent_maps.specs.Maps.{tokensIn}
+use Rattle.instant_call.specs.declared.Reply.{Reply as Replied}
+use Rattle.instant_call.specs.declared.Reply.the-variants.{Score as Turned, Lengths, State, Input, Last, Next, Settled}
+use Rattle.instant_call.specs.InstantCall.{Lent, Exit, lengthFault, tokenFault, kept, exit, InstantCall}
+use Rattle.score_answer.specs.Answer.{numberOf, valueOf, statusOf, countOf, Fits, packed, Reads}
+use Rattle.score_answer.specs.Replies.{ofReply}
+use Rattle.score_answer.proofs.Answer.{exact}
+use Rattle.score_answer.proofs.Replies.{reply-number, reply-value, reply-fits}
 use Rattle.score.specs.ScoreInstant.{ScoreInstant, OneExit, OneAnswer}
 
 pub one-exit : OneExit

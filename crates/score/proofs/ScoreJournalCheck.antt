@@ -7,12 +7,12 @@
 use mathlib.Core.Path.{_≡_, sym, ap, subst⁻¹, _∙_}
 use mathlib.Core.List.{List}
 use Prim.Native.Nat.{ℕ}
-use Rattle.history.specs.declared.Reply.{Reply as Replied}
-use Rattle.journalcheck.specs.JournalCheckCall.{Exit, exit, JournalCheckCall}
-use Rattle.journalcheck.proofs.Replies.{check-proper}
-use Rattle.answer.specs.Answer.{Fits, packed, Reads}
-use Rattle.answer.specs.Replies.{ofRunReply}
-use Rattle.answer.proofs.Answer.{exact}
+use Rattle.journal_step.specs.declared.Reply.{Reply as Replied}
+use Rattle.journal_check.specs.JournalCheckCall.{Exit, exit, JournalCheckCall}
+use Rattle.journal_check.proofs.Replies.{check-proper}
+use Rattle.score_answer.specs.Answer.{Fits, packed, Reads}
+use Rattle.score_answer.specs.Replies.{ofRunReply}
+use Rattle.score_answer.proofs.Answer.{exact}
 use Rattle.score.specs.ScoreJournalCheck.{ScoreJournalCheck, OneExit}
 use Rattle.score.specs.Slice.{Slice}
 use Rattle.score.proofs.ScoreRun.{proper-fits, words-few}

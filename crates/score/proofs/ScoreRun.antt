@@ -11,18 +11,18 @@ use mathlib.Core.List.{List}
 use Prim.Native.Nat.{ℕ, _/_, _^_, _<_}
 use native.Mathlib.Omega.{arith}
 use lib.ListN.{length}
-use Rattle.verdicts.specs.Verdicts as verdicts
-use Rattle.verdicts.proofs.Verdicts.{number-few}
-use Rattle.scorefile.specs.Check.{verdict}
-use Rattle.scorefile.proofs.Values.{verdict-small}
-use Rattle.history.specs.declared.Reply.{Reply as Replied}
-use Rattle.history.proofs.Replies.{Proper, turned, lengths, no-state, unlawful, bytes, word, differs, full, last, accepted}
-use Rattle.run.specs.RunCall.{Lent, Exit, exit, RunCall}
-use Rattle.run.proofs.Replies.{run-proper}
-use Rattle.answer.specs.Answer.{Fits, packed, Reads}
-use Rattle.answer.specs.Replies.{ofRunReply}
-use Rattle.answer.proofs.Answer.{exact}
-use Rattle.answer.proofs.Replies.{reply-fits}
+use Rattle.check_verdicts.specs.Verdicts as verdicts
+use Rattle.check_verdicts.proofs.Verdicts.{number-few}
+use Rattle.check_score.specs.Check.{verdict}
+use Rattle.check_score.proofs.Values.{verdict-small}
+use Rattle.journal_step.specs.declared.Reply.{Reply as Replied}
+use Rattle.journal_step.proofs.Replies.{Proper, turned, lengths, no-state, unlawful, bytes, word, differs, full, last, accepted}
+use Rattle.journal_run.specs.RunCall.{Lent, Exit, exit, RunCall}
+use Rattle.journal_run.proofs.Replies.{run-proper}
+use Rattle.score_answer.specs.Answer.{Fits, packed, Reads}
+use Rattle.score_answer.specs.Replies.{ofRunReply}
+use Rattle.score_answer.proofs.Answer.{exact}
+use Rattle.score_answer.proofs.Replies.{reply-fits}
 use Rattle.score.specs.ScoreRun.{ScoreRun, OneExit}
 use Rattle.score.specs.Slice.{Slice}
 

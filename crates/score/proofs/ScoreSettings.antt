@@ -13,22 +13,22 @@ use native.Mathlib.Omega.{arith}
 use borrow.Author.Tests.{le-leb, ne-eqb}
 use lib.Dec.{eqb, leb}
 use Rattle.format.specs.Decode.{decode}
-use Rattle.verdicts.specs.declared.Verdict.{Verdict}
-use Rattle.verdicts.specs.declared.Verdict.the-variants.{Accepted}
-use Rattle.verdicts.specs.Verdicts as verdicts
-use Rattle.verdicts.proofs.Verdicts.{number-few, verdict-settled}
-use Rattle.scorefile.specs.Check.{verdict}
-use Rattle.scorefile.proofs.Values.{verdict-small}
+use Rattle.check_verdicts.specs.declared.Verdict.{Verdict}
+use Rattle.check_verdicts.specs.declared.Verdict.the-variants.{Accepted}
+use Rattle.check_verdicts.specs.Verdicts as verdicts
+use Rattle.check_verdicts.proofs.Verdicts.{number-few, verdict-settled}
+use Rattle.check_score.specs.Check.{verdict}
+use Rattle.check_score.proofs.Values.{verdict-small}
 use Rattle.lent.specs.States.{stateOf}
-use Rattle.settings.proofs.Binomial.{three-most}
-use Rattle.counting.specs.declared.Reply.{Reply as Replied}
-use Rattle.counting.specs.declared.Reply.the-variants.{Score as Turned, Lengths, State, Switches, Counted}
-use Rattle.counting.specs.SettingsCall.{reply, SettingsCall}
-use Rattle.counting.proofs.Outcomes.{Outcome, turned, lengths, unlawful, switched, counted, outcome, few}
-use Rattle.answer.specs.Answer.{numberOf, valueOf, settingsOf, Fits, packed, Reads}
-use Rattle.answer.specs.Replies.{ofSettings}
-use Rattle.answer.proofs.Answer.{exact}
-use Rattle.answer.proofs.Replies.{reply-number, reply-value, reply-fits}
+use Rattle.settings_tried.proofs.Binomial.{three-most}
+use Rattle.settings_call.specs.declared.Reply.{Reply as Replied}
+use Rattle.settings_call.specs.declared.Reply.the-variants.{Score as Turned, Lengths, State, Switches, Counted}
+use Rattle.settings_call.specs.SettingsCall.{reply, SettingsCall}
+use Rattle.settings_call.proofs.Outcomes.{Outcome, turned, lengths, unlawful, switched, counted, outcome, few}
+use Rattle.score_answer.specs.Answer.{numberOf, valueOf, settingsOf, Fits, packed, Reads}
+use Rattle.score_answer.specs.Replies.{ofSettings}
+use Rattle.score_answer.proofs.Answer.{exact}
+use Rattle.score_answer.proofs.Replies.{reply-number, reply-value, reply-fits}
 use Rattle.score.specs.ScoreSettings.{ScoreSettings, OneExit, OneAnswer}
 
 pub one-exit : OneExit

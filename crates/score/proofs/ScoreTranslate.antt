@@ -12,17 +12,17 @@ use Prim.Native.Nat.{ℕ, _<_}
 use native.Mathlib.Omega.{arith}
 use Rattle.laws.proofs.Lists.{on-entries}
 use Rattle.laws.proofs.Sets.{Within}
-use Rattle.verdicts.specs.Verdicts as verdicts
-use Rattle.verdicts.proofs.Verdicts.{number-few}
-use Rattle.scorefile.proofs.Values.{verdict-small}
-use Rattle.translation.specs.declared.Reply.{Reply as Replied}
-use Rattle.draftfile.specs.DraftFile.{asWhens, draftVerdict}
-use Rattle.translating.specs.TranslateCall.{Exit, exit, TranslateCall}
-use Rattle.translating.proofs.Plain.{plain-short, Outcome, turned, lengths, large, writes, outcome}
-use Rattle.answer.specs.Answer.{Fits, packed, Reads}
-use Rattle.answer.specs.Replies.{ofTranslation}
-use Rattle.answer.proofs.Answer.{exact}
-use Rattle.answer.proofs.Replies.{reply-fits}
+use Rattle.check_verdicts.specs.Verdicts as verdicts
+use Rattle.check_verdicts.proofs.Verdicts.{number-few}
+use Rattle.check_score.proofs.Values.{verdict-small}
+use Rattle.draft_plain.specs.declared.Reply.{Reply as Replied}
+use Rattle.draft_format.specs.DraftFile.{asWhens, draftVerdict}
+use Rattle.draft_contract.specs.TranslateCall.{Exit, exit, TranslateCall}
+use Rattle.draft_contract.proofs.Plain.{plain-short, Outcome, turned, lengths, large, writes, outcome}
+use Rattle.score_answer.specs.Answer.{Fits, packed, Reads}
+use Rattle.score_answer.specs.Replies.{ofTranslation}
+use Rattle.score_answer.proofs.Answer.{exact}
+use Rattle.score_answer.proofs.Replies.{reply-fits}
 use Rattle.score.specs.ScoreTranslate.{ScoreTranslate, OneExit}
 use Rattle.score.specs.Slice.{Slice}
 

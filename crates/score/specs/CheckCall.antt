@@ -5,9 +5,9 @@
 use mathlib.Core.Path.{_≡_}
 use mathlib.Core.List.{List}
 use Prim.Native.Nat.{ℕ}
-use Rattle.scorefile.specs.Check.{verdict}
-use Rattle.answer.specs.Answer.{packed}
-use Rattle.answer.specs.Replies.{ofVerdict}
+use Rattle.check_score.specs.Check.{verdict}
+use Rattle.score_answer.specs.Answer.{packed}
+use Rattle.score_answer.specs.Replies.{ofVerdict}
 
 pub record CheckCall (score : List ℕ) (answer : ℕ) : Type 0 where
   pub answered : answer ≡ packed (ofVerdict (verdict score))

@@ -7,9 +7,9 @@
 use mathlib.Core.Path.{_≡_}
 use mathlib.Core.List.{List}
 use Prim.Native.Nat.{ℕ}
-use Rattle.instant.specs.InstantCall.{Lent, exit}
-use Rattle.answer.specs.Answer.{packed}
-use Rattle.answer.specs.Replies.{ofReply}
+use Rattle.instant_call.specs.InstantCall.{Lent, exit}
+use Rattle.score_answer.specs.Answer.{packed}
+use Rattle.score_answer.specs.Replies.{ofReply}
 
 pub record ScoreInstant (score input : List ℕ) (before after : Lent) (answer : ℕ) : Type 0 where
   pub written : after ≡ exit score input before .lent

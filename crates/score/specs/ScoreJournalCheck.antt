@@ -5,9 +5,9 @@
 use mathlib.Core.Path.{_≡_}
 use mathlib.Core.List.{List}
 use Prim.Native.Nat.{ℕ}
-use Rattle.journalcheck.specs.JournalCheckCall.{exit}
-use Rattle.answer.specs.Answer.{packed}
-use Rattle.answer.specs.Replies.{ofRunReply}
+use Rattle.journal_check.specs.JournalCheckCall.{exit}
+use Rattle.score_answer.specs.Answer.{packed}
+use Rattle.score_answer.specs.Replies.{ofRunReply}
 use Rattle.score.specs.Slice.{Slice}
 
 pub record ScoreJournalCheck (score journal before after : List ℕ) (answer : ℕ) : Type 0 where

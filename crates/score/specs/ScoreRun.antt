@@ -5,9 +5,9 @@
 use mathlib.Core.Path.{_≡_}
 use mathlib.Core.List.{List}
 use Prim.Native.Nat.{ℕ}
-use Rattle.run.specs.RunCall.{Lent, exit}
-use Rattle.answer.specs.Answer.{packed}
-use Rattle.answer.specs.Replies.{ofRunReply}
+use Rattle.journal_run.specs.RunCall.{Lent, exit}
+use Rattle.score_answer.specs.Answer.{packed}
+use Rattle.score_answer.specs.Replies.{ofRunReply}
 use Rattle.score.specs.Slice.{Slice}
 
 pub record ScoreRun (score inputs : List ℕ) (before after : Lent) (answer : ℕ) : Type 0 where

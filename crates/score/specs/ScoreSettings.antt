@@ -6,9 +6,9 @@
 use mathlib.Core.Path.{_≡_}
 use mathlib.Core.List.{List}
 use Prim.Native.Nat.{ℕ}
-use Rattle.counting.specs.SettingsCall.{reply}
-use Rattle.answer.specs.Answer.{packed}
-use Rattle.answer.specs.Replies.{ofSettings}
+use Rattle.settings_call.specs.SettingsCall.{reply}
+use Rattle.score_answer.specs.Answer.{packed}
+use Rattle.score_answer.specs.Replies.{ofSettings}
 
 pub record ScoreSettings (score state switches : List ℕ) (k answer : ℕ) : Type 0 where
   pub answered : answer ≡ packed (ofSettings (reply score state switches k))

@@ -6,9 +6,9 @@
 use mathlib.Core.Path.{_≡_}
 use mathlib.Core.List.{List}
 use Prim.Native.Nat.{ℕ}
-use Rattle.translating.specs.TranslateCall.{exit}
-use Rattle.answer.specs.Answer.{packed}
-use Rattle.answer.specs.Replies.{ofTranslation}
+use Rattle.draft_contract.specs.TranslateCall.{exit}
+use Rattle.score_answer.specs.Answer.{packed}
+use Rattle.score_answer.specs.Replies.{ofTranslation}
 use Rattle.score.specs.Slice.{Slice}
 
 pub record ScoreTranslate (draft before after : List ℕ) (answer : ℕ) : Type 0 where

@@ -1,6 +1,6 @@
 // The functions exported to C.
-ghost use Rattle.instant.specs.InstantCall.{lent};
-ghost use Rattle.run.specs.RunCall.{lent as lentToRun};
+ghost use Rattle.instant_call.specs.InstantCall.{lent};
+ghost use Rattle.journal_run.specs.RunCall.{lent as lentToRun};
 ghost use Rattle.score.specs.CheckCall.{CheckCall};
 ghost use Rattle.score.specs.ScoreInstant.{ScoreInstant};
 ghost use Rattle.score.specs.ScoreRun.{ScoreRun};
@@ -13,7 +13,7 @@ ghost use Rattle.score.specs.ScoreTranslate.{ScoreTranslate};
 pub extern "C" fn score_check(score: &[u8]) -> u64
     ensures { λ r. ⌜ CheckCall (now (score .entry)) r ⌝ }
 {
-    answer::of_verdict(scorefile::check(score))
+    score_answer::of_verdict(check_score::check(score))
 }
 
 // Plays one instant of a score.
@@ -28,7 +28,7 @@ pub extern "C" fn score_instant(
 ) -> u64
     ensures { λ r. ⌜ ScoreInstant (now (score .entry)) (now (input .entry)) (lent (now (state .entry)) (now (store .entry)) (now (output .entry)) (now (scratch .entry))) (lent (now (state .exit)) (now (store .exit)) (now (output .exit)) (now (scratch .exit))) r ⌝ }
 {
-    answer::of_reply(instant::call(score, state, input, store, output, scratch))
+    score_answer::of_reply(instant_call::call(score, state, input, store, output, scratch))
 }
 
 // Runs a score over an input list.
@@ -42,7 +42,7 @@ pub extern "C" fn score_run(
 ) -> u64
     ensures { λ r. ⌜ ScoreRun (now (score .entry)) (now (inputs .entry)) (lentToRun (now (state .entry)) (now (journal .entry)) (now (scratch .entry))) (lentToRun (now (state .exit)) (now (journal .exit)) (now (scratch .exit))) r ⌝ }
 {
-    answer::of_run_reply(run::call(score, state, inputs, journal, scratch))
+    score_answer::of_run_reply(journal_run::call(score, state, inputs, journal, scratch))
 }
 
 // Checks a journal from the start state.
@@ -50,7 +50,7 @@ pub extern "C" fn score_run(
 pub extern "C" fn score_journal_check(score: &[u8], journal: &[u8], scratch: &mut [u8]) -> u64
     ensures { λ r. ⌜ ScoreJournalCheck (now (score .entry)) (now (journal .entry)) (now (scratch .entry)) (now (scratch .exit)) r ⌝ }
 {
-    answer::of_run_reply(journalcheck::call(score, journal, scratch))
+    score_answer::of_run_reply(journal_check::call(score, journal, scratch))
 }
 
 // Counts how the settings of exactly k switches end, each tried from the same state.
@@ -58,7 +58,7 @@ pub extern "C" fn score_journal_check(score: &[u8], journal: &[u8], scratch: &mu
 pub extern "C" fn score_settings(score: &[u8], state: &[u8], switches: &[u8], k: u32) -> u64
     ensures { λ r. ⌜ ScoreSettings (now (score .entry)) (now (state .entry)) (now (switches .entry)) k r ⌝ }
 {
-    answer::of_settings(counting::call(score, state, switches, k))
+    score_answer::of_settings(settings_call::call(score, state, switches, k))
 }
 
 // Translates a draft to a plain score.
@@ -66,5 +66,5 @@ pub extern "C" fn score_settings(score: &[u8], state: &[u8], switches: &[u8], k:
 pub extern "C" fn score_translate(draft: &[u8], plain: &mut [u8]) -> u64
     ensures { λ r. ⌜ ScoreTranslate (now (draft .entry)) (now (plain .entry)) (now (plain .exit)) r ⌝ }
 {
-    answer::of_translation(translator::call(draft, plain))
+    score_answer::of_translation(draft_call::call(draft, plain))
 }

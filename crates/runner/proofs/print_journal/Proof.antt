@@ -5,8 +5,8 @@ use borrow.Author.Needs.{needs}
 use native.Mathlib.Omega.{arith}
 use lib.ListN.{length}
 use Rattle.words.specs.Word.{words}
-use Rattle.text.specs.Shown.{shown}
-use Rattle.text.proofs.Shown.{shown-few}
+use Rattle.runner_text.specs.Shown.{shown}
+use Rattle.runner_text.proofs.Shown.{shown-few}
 use Rattle.runner.proofs.print_journal.Statement.{statement}
 use Rattle.runner.proofs.print_journal.Tie as tie
 

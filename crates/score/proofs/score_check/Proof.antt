@@ -1,12 +1,12 @@
 -- `score_check`: the verdict, packed.
 use mathlib.Core.Path.{ap, _∙_}
-use Rattle.verdicts.specs.Verdicts.{numberOf, valueOf}
-use Rattle.verdicts.proofs.Verdicts.{number-few}
-use Rattle.scorefile.specs.Check.{verdict}
-use Rattle.scorefile.proofs.Values.{verdict-small}
-use Rattle.answer.specs.Answer.{packed}
-use Rattle.answer.specs.Replies.{ofVerdict}
-use Rattle.answer.proofs.Replies.{reply-fits}
+use Rattle.check_verdicts.specs.Verdicts.{numberOf, valueOf}
+use Rattle.check_verdicts.proofs.Verdicts.{number-few}
+use Rattle.check_score.specs.Check.{verdict}
+use Rattle.check_score.proofs.Values.{verdict-small}
+use Rattle.score_answer.specs.Answer.{packed}
+use Rattle.score_answer.specs.Replies.{ofVerdict}
+use Rattle.score_answer.proofs.Replies.{reply-fits}
 use borrow.Author.Needs.{needs}
 use Rattle.score.proofs.score_check.Statement.{statement}
 use Rattle.score.proofs.score_check.Tie as tie

@@ -1,8 +1,0 @@
--- Demand 2.
-use Rattle.demands.specs.Operational.{Operational}
-use Rattle.demands.proofs.Linked.{linked-each}
-use Rattle.demands.proofs.Calls.{linked}
-use Rattle.demands.proofs.Rules.{by-the-rules}
-
-pub operational : Operational
-operational score first last calls answered turn answers p m = by-the-rules (linked-each (linked turn answers) p m)
