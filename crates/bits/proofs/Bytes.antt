@@ -2,8 +2,8 @@
 --     bytesOf-length     four bytes for every word
 --     bytesOf-append     one list of words after the other
 --     words-bytes        the words of the bytes of words are those words
---     Written            a buffer with words written from its front
---     written-more       one word more
+--     putFront           a buffer with words written from its front
+--     put-front-more     one word more
 use mathlib.Core.Path.{_≡_, refl, sym, ap, ap₂, _∙_}
 use mathlib.Core.List.{List, [], _∷_, _++_, List·Memᴰ·head, List·Memᴰ·tail}
 use Prim.Native.Nat.{ℕ, _+_, _*_, _/_, _%_, _^_, _<_}
@@ -40,20 +40,20 @@ unfolding words bytesOf
 words-bytes [] h = refl
 words-bytes (w ∷ ws) h = ap₂ _∷_ (rejoined w (h w (List·Memᴰ·head refl))) (words-bytes ws (λ x m. h x (List·Memᴰ·tail m)))
 
-abbrev pub Written : List ℕ → List ℕ → List ℕ
-Written ws s = bytesOf ws ++ drop (4 * length ws) s
+abbrev pub putFront : List ℕ → List ℕ → List ℕ
+putFront ws s = bytesOf ws ++ drop (4 * length ws) s
 
-pub written-more : (ws : List ℕ) (w n : ℕ) (s : List ℕ) → length ws ≡ n → take (4 * n) (Written ws s) ++ bytesOf (w ∷ []) ++ drop (4 * n + 4) (Written ws s) ≡ Written (ws ++ (w ∷ [])) s
-written-more ws w n s e =
+pub put-front-more : (ws : List ℕ) (w n : ℕ) (s : List ℕ) → length ws ≡ n → take (4 * n) (putFront ws s) ++ bytesOf (w ∷ []) ++ drop (4 * n + 4) (putFront ws s) ≡ putFront (ws ++ (w ∷ [])) s
+put-front-more ws w n s e =
     ap₂ (λ a b. a ++ bytesOf (w ∷ []) ++ b) (take-at (bytesOf ws) (drop (4 * length ws) s) (4 * n) front) later
     ∙ ap₂ _++_ (sym (bytesOf-append ws (w ∷ []))) (ap (λ k. drop k s) more)
   where
     front : length (bytesOf ws) ≡ 4 * n
     front = bytesOf-length ws ∙ ap (λ k. 4 * k) e
 
-    later : drop (4 * n + 4) (Written ws s) ≡ drop (4 * length ws + 4) s
+    later : drop (4 * n + 4) (putFront ws s) ≡ drop (4 * length ws + 4) s
     later =
-        ap (λ k. drop (k + 4) (Written ws s)) (sym front)
+        ap (λ k. drop (k + 4) (putFront ws s)) (sym front)
         ∙ drop-append-add (bytesOf ws) (drop (4 * length ws) s) 4
         ∙ drop-drop 4 (4 * length ws) s
 

@@ -1,6 +1,6 @@
 -- The bits of words, in their bytes: bit (i mod 8) of byte i div 8 is bit (i mod 32) of word i div 32.
 --     bytes-bit        in the bytes of words
---     written-beyond, written-bit     in a buffer of zeros with words written from its front: nothing beyond them
+--     put-front-beyond, put-front-bit     in a buffer of zeros with words written from its front: nothing beyond them
 use mathlib.Core.Path.{_≡_, sym, ap, ap₂, _∙_}
 use mathlib.Core.List.{List, [], _∷_}
 use mathlib.Core.Logic.{by-cases}
@@ -11,7 +11,7 @@ use lib.ListN.{length, getD, drop, List·getD-append, List·getD-eq-default}
 use lib.Seq.{getD-append-add, getD-drop}
 use Rattle.bits.specs.Bits.{bitAt, bytesOf}
 use Rattle.bits.proofs.Bits.{bit-none, bit-low, bit-shifted}
-use Rattle.bits.proofs.Bytes.{Written, bytesOf-length}
+use Rattle.bits.proofs.Bytes.{putFront, bytesOf-length}
 
 -- bit j of the byte of w from bit b on
 byte-bit : (w b j : ℕ) → j < 8 → bitAt (w / 2 ^ b % 2 ^ 8) j ≡ bitAt w (b + j)
@@ -47,15 +47,15 @@ bytes-bit (w ∷ ws) i h = by-cases (decLt i 32) first (λ g. rest g (bytes-bit 
 
 -- a buffer of zeros with words written from its front
 module _ (ws s : List ℕ) (zeros : (k : ℕ) → getD s k 0 ≡ 0) where
-  pub written-beyond : (k : ℕ) → 4 * length ws ≤ k → getD (Written ws s) k 0 ≡ 0
-  written-beyond k h =
+  pub put-front-beyond : (k : ℕ) → 4 * length ws ≤ k → getD (putFront ws s) k 0 ≡ 0
+  put-front-beyond k h =
       let e : k ≡ length (bytesOf ws) + (k - length (bytesOf ws)) = omega (arith, bytesOf-length ws) in
-      ap (λ n. getD (Written ws s) n 0) e
+      ap (λ n. getD (putFront ws s) n 0) e
       ∙ getD-append-add (bytesOf ws) (drop (4 * length ws) s) (k - length (bytesOf ws)) 0
       ∙ getD-drop (4 * length ws) s (k - length (bytesOf ws)) 0
       ∙ zeros (4 * length ws + (k - length (bytesOf ws)))
 
-  pub written-bit : (i : ℕ) → bitAt (getD (Written ws s) (i / 8) 0) (i % 8) ≡ bitAt (getD ws (i / 32) 0) (i % 32)
-  written-bit i = by-cases (decLt i (32 * length ws))
+  pub put-front-bit : (i : ℕ) → bitAt (getD (putFront ws s) (i / 8) 0) (i % 8) ≡ bitAt (getD ws (i / 32) 0) (i % 32)
+  put-front-bit i = by-cases (decLt i (32 * length ws))
       (λ l. ap (λ x. bitAt x (i % 8)) (List·getD-append (bytesOf ws) (drop (4 * length ws) s) 0 (i / 8) (omega (arith, bytesOf-length ws))) ∙ bytes-bit ws i l)
-      (λ g. ap (λ x. bitAt x (i % 8)) (written-beyond (i / 8) (omega arith)) ∙ bit-none (i % 8) ∙ sym (ap (λ x. bitAt x (i % 32)) (List·getD-eq-default ws 0 (omega arith)) ∙ bit-none (i % 32)))
+      (λ g. ap (λ x. bitAt x (i % 8)) (put-front-beyond (i / 8) (omega arith)) ∙ bit-none (i % 8) ∙ sym (ap (λ x. bitAt x (i % 32)) (List·getD-eq-default ws 0 (omega arith)) ∙ bit-none (i % 32)))

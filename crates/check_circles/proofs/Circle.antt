@@ -25,7 +25,7 @@ use Rattle.format.specs.Decode.{sizes, decode}
 use Rattle.format.proofs.Decode.{decode-roots}
 use Rattle.check_verdicts.specs.declared.Verdict.{Verdict}
 use Rattle.check_verdicts.specs.declared.Verdict.the-variants.{Accepted, Circle}
-use Rattle.check_verdicts.specs.Verdicts.{numberOf}
+use Rattle.check_verdicts.specs.Verdicts.{verdictNumber}
 use Rattle.check_faults.specs.Faultless.{Faultless}
 use Rattle.check_faults.proofs.Accepted.{procedures-known, roots-known}
 use Rattle.check_calls.specs.Calls.{called, Direct, Linked, one, more, Closed, inSet, Gathered}
@@ -117,7 +117,7 @@ module _ (sc : Score) (p : ℕ) (low : LowestCircular sc p) where
   lowest-none le = circle-past sc p (length (sc .roots)) (low .within) (low .below) ∙ circle-none sc p (length (sc .roots)) le
 
 not-here : (b : Bool) (p : ℕ) (v : Verdict) → cond b (Circle p) v ≡ Accepted → (b ≡ false) × (v ≡ Accepted)
-not-here true p v e = let z : _≡_ {A = ℕ} 7 0 = ap numberOf e in absurd (omega arith)
+not-here true p v e = let z : _≡_ {A = ℕ} 7 0 = ap verdictNumber e in absurd (omega arith)
 not-here false p v e = (refl, e)
 
 pub circle-free : (sc : Score) (p n : ℕ) → circleFrom sc p n ≡ Accepted → (j : ℕ) → j < n → circular sc (p + j) ≡ false

@@ -29,7 +29,7 @@ use Rattle.format.specs.Decode.{sizes, decode}
 use Rattle.format.proofs.Decode.{decode-agent, decode-root, decode-agents}
 use Rattle.check_verdicts.specs.declared.Verdict.{Verdict}
 use Rattle.check_verdicts.specs.declared.Verdict.the-variants.{Accepted, Length, Count, Form, Token, Reference}
-use Rattle.check_verdicts.specs.Verdicts.{numberOf}
+use Rattle.check_verdicts.specs.Verdicts.{verdictNumber}
 use Rattle.check_verdicts.proofs.Verdicts.{refused, both-accepted}
 use Rattle.check_words.specs.WordFaults.{atWord, portsVerdict, rootVerdict, ruleVerdict, agentVerdict}
 use Rattle.check_faults.specs.Faults.{lengthVerdict, countVerdict, wordVerdict, firstFault}
@@ -81,18 +81,18 @@ lower h i (Whole a) e =
     let n = neither (any (λ b. leb i b) (partsOf a)) (any (λ p. leb (h .procedures) p) (proceduresOf a)) (f .not-astray) in
     record { tokens = f .known; parts = none-above i (partsOf a) (n .0); procedures = none-above (h .procedures) (proceduresOf a) (n .1) }
 
-chosen : (b : Bool) (v : Verdict) → (numberOf v ≡ 0 → ⊥) → numberOf (cond b v Accepted) ≡ 0 → b ≡ false
+chosen : (b : Bool) (v : Verdict) → (verdictNumber v ≡ 0 → ⊥) → verdictNumber (cond b v Accepted) ≡ 0 → b ≡ false
 chosen true v n e = absurd (n e)
 chosen false v n e = refl
 
-pub length-accepted : (n : ℕ) → numberOf (lengthVerdict n) ≡ 0 → (1 ≤ n) × (n % 4 ≡ 0) × (n ≤ 5384)
+pub length-accepted : (n : ℕ) → verdictNumber (lengthVerdict n) ≡ 0 → (1 ≤ n) × (n % 4 ≡ 0) × (n ≤ 5384)
 length-accepted n e =
     let b = neither (eqb n 0 || not (eqb (n % 4) 0)) (ltb 5384 n) (chosen _ Length (λ z. omega arith) e) in
     let a = neither (eqb n 0) (not (eqb (n % 4) 0)) (b .0) in
     let z : (n ≡ 0 → ⊥) = eqb-false n 0 (a .0) in
     (omega arith, eqb-true (n % 4) 0 (not-false (eqb (n % 4) 0) (a .1)), ltb-false 5384 n (b .1))
 
-pub count-accepted : (h : Sizes) (n : ℕ) → numberOf (countVerdict h n) ≡ 0 → (2 + h .agents + h .procedures ≤ n) × (n ≤ 2 + h .agents + h .procedures + 256)
+pub count-accepted : (h : Sizes) (n : ℕ) → verdictNumber (countVerdict h n) ≡ 0 → (2 + h .agents + h .procedures ≤ n) × (n ≤ 2 + h .agents + h .procedures + 256)
 count-accepted h n e =
     let b = neither (ltb n (2 + h .agents + h .procedures)) (ltb (2 + h .agents + h .procedures + 256) n) (chosen _ Count (λ z. omega arith) e) in
     (ltb-false n (2 + h .agents + h .procedures) (b .0), ltb-false (2 + h .agents + h .procedures + 256) n (b .1))

@@ -18,7 +18,7 @@ use Rattle.words.proofs.Words.{words-length}
 use Rattle.format.specs.Decode.{sizes, decode}
 use Rattle.format.proofs.Decode.{decode-agents, decode-roots, decode-tokens, decode-lowest, decode-highest, decode-rules, on-rules, sizes-few}
 use Rattle.check_verdicts.specs.declared.Verdict.the-variants.{Accepted}
-use Rattle.check_verdicts.specs.Verdicts.{numberOf, orElse}
+use Rattle.check_verdicts.specs.Verdicts.{verdictNumber, orElse}
 use Rattle.check_verdicts.proofs.Verdicts.{both-accepted}
 use Rattle.check_faults.specs.Faults.{lengthVerdict, headVerdict, countVerdict, firstFault}
 use Rattle.check_faults.specs.Faultless.{Faultless}
@@ -49,10 +49,10 @@ passed s e =
 
 module _ (s : List ℕ) (e : verdict s ≡ Accepted) where
   pub accepted-words : length s ≡ 4 * length (words s)
-  accepted-words = omega (arith, length-accepted (length s) (ap numberOf (passed s e .length-passed)), words-length s)
+  accepted-words = omega (arith, length-accepted (length s) (ap verdictNumber (passed s e .length-passed)), words-length s)
 
   counted : (2 + sizes s .agents + sizes s .procedures ≤ length (words s)) × (length (words s) ≤ 2 + sizes s .agents + sizes s .procedures + 256)
-  counted = count-accepted (sizes s) (length (words s)) (ap numberOf (passed s e .count-passed))
+  counted = count-accepted (sizes s) (length (words s)) (ap verdictNumber (passed s e .count-passed))
 
   pub accepted-faultless : Faultless s
   accepted-faultless = record { enough = counted .0; faultless = passed s e .faults-passed }

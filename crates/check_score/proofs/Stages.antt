@@ -18,22 +18,22 @@ use Rattle.format.specs.Format.{sizesOf}
 use Rattle.format.specs.Decode.{sizes}
 use Rattle.format.specs.Playable.{Playable}
 use Rattle.check_verdicts.specs.declared.Verdict.{Verdict}
-use Rattle.check_verdicts.specs.Verdicts.{numberOf}
+use Rattle.check_verdicts.specs.Verdicts.{verdictNumber}
 use Rattle.check_verdicts.proofs.Verdicts.{accepted-only}
 use Rattle.check_score.specs.Check.{verdict}
 use Rattle.check_score.proofs.Lawful.{accepted-faultless, accepted-lawful}
 
 -- by a verdict and its number, as the check returned them
-module _ (score : List ℕ) {v : Verdict} {n : ℕ} (number-is : n ≡ numberOf v) (is : v ≡ verdict score) where
-  pub turned : {E : Type 0} (down : Verdict → E) (on : E) → (n ≡ 0 → ⊥) → down v ≡ cond (not (eqb (numberOf (verdict score)) 0)) (down (verdict score)) on
-  turned down on not-zero = cond-true on (ap not (ne-eqb (numberOf (verdict score)) 0 (λ z. not-zero (number-is ∙ ap numberOf is ∙ z)))) (ap down is)
+module _ (score : List ℕ) {v : Verdict} {n : ℕ} (number-is : n ≡ verdictNumber v) (is : v ≡ verdict score) where
+  pub turned : {E : Type 0} (down : Verdict → E) (on : E) → (n ≡ 0 → ⊥) → down v ≡ cond (not (eqb (verdictNumber (verdict score)) 0)) (down (verdict score)) on
+  turned down on not-zero = cond-true on (ap not (ne-eqb (verdictNumber (verdict score)) 0 (λ z. not-zero (number-is ∙ ap verdictNumber is ∙ z)))) (ap down is)
 
-  pub accepted : n ≡ 0 → numberOf (verdict score) ≡ 0
-  accepted zero = sym (number-is ∙ ap numberOf is) ∙ zero
+  pub accepted : n ≡ 0 → verdictNumber (verdict score) ≡ 0
+  accepted zero = sym (number-is ∙ ap verdictNumber is) ∙ zero
 
-module _ (score : List ℕ) (accepted : numberOf (verdict score) ≡ 0) where
-  pub passed : {E : Type 0} {on z : E} (x : E) → z ≡ on → z ≡ cond (not (eqb (numberOf (verdict score)) 0)) x on
-  passed x = cond-false x (ap not (eq-eqb (numberOf (verdict score)) 0 accepted))
+module _ (score : List ℕ) (accepted : verdictNumber (verdict score) ≡ 0) where
+  pub passed : {E : Type 0} {on z : E} (x : E) → z ≡ on → z ≡ cond (not (eqb (verdictNumber (verdict score)) 0)) x on
+  passed x = cond-false x (ap not (eq-eqb (verdictNumber (verdict score)) 0 accepted))
 
   pub playable : Playable score
   playable = let e = accepted-only (verdict score) accepted in record { whole = accepted-faultless score e .enough; lawful = accepted-lawful score e }

@@ -21,7 +21,7 @@ use Rattle.format.specs.Decode.{sizes, decode}
 use Rattle.format.proofs.Decode.{sizes-few}
 use Rattle.check_verdicts.specs.declared.Verdict.{Verdict}
 use Rattle.check_verdicts.specs.declared.Verdict.the-variants.{Accepted, Length, Head, Count, Form, Token, Reference, Circle}
-use Rattle.check_verdicts.specs.Verdicts.{numberOf, valueOf, orElse}
+use Rattle.check_verdicts.specs.Verdicts.{verdictNumber, verdictValue, orElse}
 use Rattle.check_verdicts.proofs.Verdicts.{orElse-accepted, orElse-refused}
 use Rattle.check_words.specs.WordFaults.{atWord, agentVerdict}
 use Rattle.check_faults.specs.Faults.{wordVerdict, firstFault, lengthVerdict, headVerdict, countVerdict}
@@ -30,7 +30,7 @@ use Rattle.check_circles.specs.Circles.{circleFrom}
 use Rattle.check_score.specs.Check.{verdict}
 
 record Small (n : ℕ) (v : Verdict) : Type 0 where
-  small : valueOf v ≤ n
+  small : verdictValue v ≤ n
 
 either-small : (b : Bool) {v w : Verdict} {n : ℕ} → Small n v → Small n w → Small n (cond b v w)
 either-small true hv hw = hv
@@ -81,7 +81,7 @@ roots-few : (s : List ℕ) → length (decode s .roots) ≤ 64
 unfolding decode
 roots-few s = simp (length-map, length-take) (omega (arith, sizes-few s))
 
-rest-small : (s : List ℕ) → numberOf (lengthVerdict (length s)) ≡ 0 →
+rest-small : (s : List ℕ) → verdictNumber (lengthVerdict (length s)) ≡ 0 →
     Small 1400 (orElse (headVerdict (wordAt s 0)) (orElse (countVerdict (sizes s) (length (words s))) (orElse (firstFault (sizes s) 1 (drop 1 (words s))) (circleFrom (decode s) 0 (length (decode s .roots))))))
 rest-small s e =
     let short : 1 + length (drop 1 (words s)) ≤ 1400 = simp length-drop (omega (arith, length-accepted (length s) e, words-length s)) in
@@ -93,10 +93,10 @@ rest-small s e =
 length-small : (n : ℕ) → Small 1400 (lengthVerdict n)
 length-small n = either-small (eqb n 0 || not (eqb (n % 4) 0) || ltb 5384 n) (record { small = omega arith }) (record { small = omega arith })
 
-pub verdict-small : (s : List ℕ) → valueOf (verdict s) < 2 ^ 24
+pub verdict-small : (s : List ℕ) → verdictValue (verdict s) < 2 ^ 24
 unfolding verdict
-verdict-small s = go (ℕ-discrete (numberOf (lengthVerdict (length s))) 0)
+verdict-small s = go (ℕ-discrete (verdictNumber (lengthVerdict (length s))) 0)
   where
-    go : Dec (numberOf (lengthVerdict (length s)) ≡ 0) → valueOf (verdict s) < 2 ^ 24
+    go : Dec (verdictNumber (lengthVerdict (length s)) ≡ 0) → verdictValue (verdict s) < 2 ^ 24
     go (yes e) = rw (orElse-accepted (lengthVerdict (length s)) _ e) (omega (arith, rest-small s e .small))
     go (no n) = rw (orElse-refused (lengthVerdict (length s)) _ n) (omega (arith, length-small (length s) .small))

@@ -13,9 +13,9 @@ use native.Mathlib.Omega.{arith}
 use lib.Dec.{eqb}
 use Rattle.check_verdicts.specs.declared.Verdict.{Verdict}
 use Rattle.check_verdicts.specs.declared.Verdict.the-variants.{Accepted, Length, Head, Count, Form, Token, Reference, Circle}
-use Rattle.check_verdicts.specs.Verdicts.{numberOf, valueOf, orElse}
+use Rattle.check_verdicts.specs.Verdicts.{verdictNumber, verdictValue, orElse}
 
-pub orElse-accepted : (v w : Verdict) → numberOf v ≡ 0 → orElse v w ≡ w
+pub orElse-accepted : (v w : Verdict) → verdictNumber v ≡ 0 → orElse v w ≡ w
 orElse-accepted Accepted w e = refl
 orElse-accepted Length w e = absurd (omega arith)
 orElse-accepted Head w e = absurd (omega arith)
@@ -25,7 +25,7 @@ orElse-accepted (Token k) w e = absurd (omega arith)
 orElse-accepted (Reference k) w e = absurd (omega arith)
 orElse-accepted (Circle p) w e = absurd (omega arith)
 
-pub orElse-refused : (v w : Verdict) → (numberOf v ≡ 0 → ⊥) → orElse v w ≡ v
+pub orElse-refused : (v w : Verdict) → (verdictNumber v ≡ 0 → ⊥) → orElse v w ≡ v
 orElse-refused Accepted w n = absurd (n refl)
 orElse-refused Length w n = refl
 orElse-refused Head w n = refl
@@ -35,8 +35,8 @@ orElse-refused (Token k) w n = refl
 orElse-refused (Reference k) w n = refl
 orElse-refused (Circle p) w n = refl
 
-pub refused : {A : Type 0} (v : Verdict) → (numberOf v ≡ 0 → ⊥) → v ≡ Accepted → A
-refused v n e = absurd (n (ap numberOf e))
+pub refused : {A : Type 0} (v : Verdict) → (verdictNumber v ≡ 0 → ⊥) → v ≡ Accepted → A
+refused v n e = absurd (n (ap verdictNumber e))
 
 pub both-accepted : (v w : Verdict) → orElse v w ≡ Accepted → (v ≡ Accepted) × (w ≡ Accepted)
 both-accepted Accepted w e = (refl, e)
@@ -48,7 +48,7 @@ both-accepted (Token k) w e = refused (Token k) (λ z. omega arith) e
 both-accepted (Reference k) w e = refused (Reference k) (λ z. omega arith) e
 both-accepted (Circle p) w e = refused (Circle p) (λ z. omega arith) e
 
-pub accepted-only : (v : Verdict) → numberOf v ≡ 0 → v ≡ Accepted
+pub accepted-only : (v : Verdict) → verdictNumber v ≡ 0 → v ≡ Accepted
 accepted-only Accepted e = refl
 accepted-only Length e = absurd (omega arith)
 accepted-only Head e = absurd (omega arith)
@@ -58,7 +58,7 @@ accepted-only (Token k) e = absurd (omega arith)
 accepted-only (Reference k) e = absurd (omega arith)
 accepted-only (Circle p) e = absurd (omega arith)
 
-pub number-few : (v : Verdict) → numberOf v ≤ 7
+pub number-few : (v : Verdict) → verdictNumber v ≤ 7
 number-few Accepted = omega arith
 number-few Length = omega arith
 number-few Head = omega arith
@@ -74,7 +74,7 @@ verdictBy n k =
     cond (eqb n 0) Accepted (cond (eqb n 1) Length (cond (eqb n 2) Head (cond (eqb n 3) Count
     (cond (eqb n 4) (Form k) (cond (eqb n 5) (Token k) (cond (eqb n 6) (Reference k) (Circle k)))))))
 
-by-itself : (v : Verdict) → v ≡ verdictBy (numberOf v) (valueOf v)
+by-itself : (v : Verdict) → v ≡ verdictBy (verdictNumber v) (verdictValue v)
 by-itself Accepted = refl
 by-itself Length = refl
 by-itself Head = refl
@@ -84,5 +84,5 @@ by-itself (Token k) = refl
 by-itself (Reference k) = refl
 by-itself (Circle p) = refl
 
-pub verdict-settled : (v w : Verdict) → numberOf v ≡ numberOf w → valueOf v ≡ valueOf w → v ≡ w
+pub verdict-settled : (v w : Verdict) → verdictNumber v ≡ verdictNumber w → verdictValue v ≡ verdictValue w → v ≡ w
 verdict-settled v w n e = by-itself v ∙ ap₂ verdictBy n e ∙ sym (by-itself w)

@@ -1,6 +1,6 @@
 // What the score check finds: verdicts, their numbers and values, the first of two.
 ghost use mathlib.Core.Path.{_≡_};
-ghost use Rattle.check_verdicts.specs.Verdicts.{numberOf, valueOf};
+ghost use Rattle.check_verdicts.specs.Verdicts.{verdictNumber, verdictValue};
 
 // What the score check finds.
 pub enum Verdict {
@@ -23,7 +23,7 @@ pub enum Verdict {
 
 // The table's number for a verdict.
 pub fn number_of(v: Verdict) -> usize
-    ensures { λ r. ⌜ r ≡ numberOf v ⌝ }
+    ensures { λ r. ⌜ r ≡ verdictNumber v ⌝ }
 {
     match v {
         Verdict::Accepted => 0,
@@ -39,7 +39,7 @@ pub fn number_of(v: Verdict) -> usize
 
 // The word or procedure that a verdict speaks of; 0 where it speaks of none.
 pub fn value_of(v: Verdict) -> usize
-    ensures { λ r. ⌜ r ≡ valueOf v ⌝ }
+    ensures { λ r. ⌜ r ≡ verdictValue v ⌝ }
 {
     match v {
         Verdict::Accepted => 0,

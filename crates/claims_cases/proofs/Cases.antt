@@ -18,7 +18,7 @@ use Rattle.words.specs.Map.{inMap}
 use Rattle.format.specs.Format.{isWord, decodeAgent, isRule}
 use Rattle.format.specs.Decode.{sizes, decode}
 use Rattle.check_verdicts.specs.declared.Verdict.the-variants.{Length}
-use Rattle.check_verdicts.specs.Verdicts.{numberOf}
+use Rattle.check_verdicts.specs.Verdicts.{verdictNumber}
 use Rattle.check_faults.specs.Faults.{wordVerdict, firstFault, lengthVerdict}
 use Rattle.check_circles.specs.Circles.{circleFrom}
 use Rattle.check_score.specs.Check.{verdict}
@@ -50,7 +50,7 @@ lengths-right : (state input store output scratch : List ℕ) → length state �
     lengthFault input (lent state store output scratch) ≡ false
 lengths-right state input store output scratch a b c d e = rw (a, b, c, d, e)
 
-module _ (score input : List ℕ) (l : Lent) (accepted : numberOf (verdict score) ≡ 0) (right : lengthFault input l ≡ false) where
+module _ (score input : List ℕ) (l : Lent) (accepted : verdictNumber (verdict score) ≡ 0) (right : lengthFault input l ≡ false) where
   bad-state : stateFault (sizes score .agents) (l .state) ≡ true → exit score input l ≡ kept l State
   unfolding exit
   bad-state e = rw (accepted, right, e)
@@ -82,7 +82,7 @@ token-4 : any (λ t. leb 4 t) (tokensIn (input-with 0x10)) ≡ true
 unfolding field inMap tokensIn
 token-4 = some-any (λ t. leb 4 t) (keep-kept (inMap (input-with 0x10)) (lt-below 256 {i = 4} (omega arith)) refl) refl
 
-sample-accepted : numberOf (verdict (bytes sample)) ≡ 0
+sample-accepted : verdictNumber (verdict (bytes sample)) ≡ 0
 unfolding fires firing closeWithin close metFrom circular words field isWord decodeAgent isRule decode wordVerdict firstFault circleFrom verdict
 sample-accepted = refl
 

@@ -16,7 +16,7 @@ use Rattle.tcc.specs.Lawful.{Lawful}
 use Rattle.tcc.specs.Instant.{State, answer, after}
 use Rattle.format.specs.Decode.{sizes, decode}
 use Rattle.format.proofs.Decode.{decode-tokens, sizes-few, playable-agents}
-use Rattle.check_verdicts.specs.Verdicts.{numberOf}
+use Rattle.check_verdicts.specs.Verdicts.{verdictNumber}
 use Rattle.check_score.specs.Check.{verdict}
 use Rattle.check_score.proofs.Stages.{playable}
 use Rattle.lent.specs.Lengths.{scratchBytes}
@@ -41,7 +41,7 @@ playOn sc st n room (inputs ∷ more) =
     (entry sc inputs (answer sc st inputs))
     (playOn sc (after (answer sc st inputs)) (suc n) (room - 4 * length (entry sc inputs (answer sc st inputs))) more)
 
-module _ (score : List ℕ) (accepted : numberOf (verdict score) ≡ 0) where
+module _ (score : List ℕ) (accepted : verdictNumber (verdict score) ≡ 0) where
   law : Lawful (decode score)
   law = playable score accepted .lawful
 

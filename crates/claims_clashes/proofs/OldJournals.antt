@@ -22,7 +22,7 @@ use Rattle.tcc.proofs.Status.{answer-status}
 use Rattle.words.specs.Word.{words}
 use Rattle.format.specs.Decode.{sizes, decode}
 use Rattle.format.proofs.Decode.{decode-tokens}
-use Rattle.check_verdicts.specs.Verdicts as verdicts
+use Rattle.check_verdicts.specs.Verdicts.{verdictNumber}
 use Rattle.check_score.specs.Check as check
 use Rattle.bits.specs.Bits.{bytesOf}
 use Rattle.lent.specs.Lengths.{scratchBytes, noScratch}
@@ -137,7 +137,7 @@ module _ (score : List ℕ) (law : Lawful (decode score)) (counted : length (dec
       rw (entry-inputs (decode score) law st inputs h, instant-lawful score law counted stands inputs h, ne-eqb (instantNumber state) lastNumber (λ z. omega arith), instant-entry score law counted stands inputs, as-run)
       (rest ∙ ap Differs (omega arith))
 
-module _ (score before : List ℕ) (lists : List (List ℕ)) (accepted : verdicts.numberOf (check.verdict score) ≡ 0) (long : length before ≡ scratchBytes)
+module _ (score before : List ℕ) (lists : List (List ℕ)) (accepted : verdictNumber (check.verdict score) ≡ 0) (long : length before ≡ scratchBytes)
     (rising : (l : List ℕ) → List·Memᴰ l lists → RisingBelow (decode score .tokens) l) (few : length lists ≤ lastNumber) where
   abbrev sc : Score
   sc = decode score

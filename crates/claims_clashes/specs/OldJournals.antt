@@ -13,7 +13,7 @@ use Rattle.laws.specs.Sets.{keep, has}
 use Rattle.tcc.specs.Score.{Score}
 use Rattle.tcc.specs.Instant.{Answer, State, ports, startState, answer, after, answers}
 use Rattle.format.specs.Decode.{decode}
-use Rattle.check_verdicts.specs.Verdicts.{numberOf}
+use Rattle.check_verdicts.specs.Verdicts.{verdictNumber}
 use Rattle.check_score.specs.Check.{verdict}
 use Rattle.bits.specs.Bits.{bytesOf}
 use Rattle.lent.specs.Lengths.{scratchBytes}
@@ -47,7 +47,7 @@ TurnedDown score inputs checked =
 
 abbrev pub OldJournals : Type 0
 OldJournals =
-    (score before after : List ℕ) (checked : ℕ) (inputs : List (List ℕ)) → numberOf (verdict score) ≡ 0 → length before ≡ scratchBytes →
+    (score before after : List ℕ) (checked : ℕ) (inputs : List (List ℕ)) → verdictNumber (verdict score) ≡ 0 → length before ≡ scratchBytes →
     ((l : List ℕ) → List·Memᴰ l inputs → RisingBelow (decode score .tokens) l) → length inputs ≤ lastNumber →
     ScoreJournalCheck score (bytesOf (historyBefore (decode score) (startState (decode score)) inputs)) before after checked →
     Kept score inputs checked × TurnedDown score inputs checked

@@ -18,7 +18,7 @@ use Rattle.tcc.specs.Lawful.{Lawful}
 use Rattle.tcc.specs.Instant.{Answer, answer, after}
 use Rattle.format.specs.Decode.{sizes, decode}
 use Rattle.format.proofs.Decode.{decode-tokens, sizes-few, playable-agents}
-use Rattle.check_verdicts.specs.Verdicts.{numberOf}
+use Rattle.check_verdicts.specs.Verdicts.{verdictNumber}
 use Rattle.check_score.specs.Check.{verdict}
 use Rattle.check_score.proofs.Stages.{playable}
 use Rattle.lent.specs.States.{stateFault, stateOf, asBytes, LawfulState}
@@ -44,7 +44,7 @@ module _ (score : List ℕ) where
       go true e = let x = any-some (λ t. leb (sizes score .tokens) t) (tokensIn input) e in absurd (omega (arith, decode-tokens score, known (x .0) (x .1), leb-true (sizes score .tokens) (x .0) (x .2)))
       go false e = e
 
-module _ (score : List ℕ) (accepted : numberOf (verdict score) ≡ 0) where
+module _ (score : List ℕ) (accepted : verdictNumber (verdict score) ≡ 0) where
   pub lawful : Lawful (decode score)
   lawful = playable score accepted .lawful
 

@@ -9,7 +9,7 @@ use lib.Dec.{eqb}
 use lib.ListN.{length}
 use Rattle.tcc.specs.Instant.{answer, after}
 use Rattle.format.specs.Decode.{sizes, decode}
-use Rattle.check_verdicts.specs.Verdicts.{numberOf}
+use Rattle.check_verdicts.specs.Verdicts.{verdictNumber}
 use Rattle.check_score.specs.Check.{verdict}
 use Rattle.lent.specs.Lengths.{stateBytes, mapBytes, scratchBytes, noScratch}
 use Rattle.lent.specs.States.{stateFault, stateOf, asBytes, atLast}
@@ -62,7 +62,7 @@ module _ (state store output s₁ s₂ : List ℕ) where
       let turned = Turned (verdict score) in
       let a = answer (decode score) (stateOf state) (tokensIn input) in
       let end = answered (decode score) state a in
-      let t = not (eqb (numberOf (verdict score)) 0) in
+      let t = not (eqb (verdictNumber (verdict score)) 0) in
       let u : ℕ → Bool = λ n. not (eqb (length state) stateBytes) || not (eqb (length input) mapBytes) || not (eqb (length store) mapBytes) || not (eqb (length output) mapBytes) || not (eqb n scratchBytes) in
       let v = stateFault (sizes score .agents) state in
       let w = tokenFault score input in
@@ -107,7 +107,7 @@ module _ (state journal s₁ s₂ : List ℕ) where
   same-run score inputs e =
       let turned = reply.Score (verdict score) in
       let ran = runFrom score state (length journal) (inputLists inputs) in
-      let t = not (eqb (numberOf (verdict score)) 0) in
+      let t = not (eqb (verdictNumber (verdict score)) 0) in
       let u : ℕ → Bool = λ n. not (eqb (length state) stateBytes) || not (eqb n scratchBytes) in
       let v = stateFault (sizes score .agents) state in
       let f = formOf false (sizes score .tokens) inputs in
@@ -139,7 +139,7 @@ unfolding check.exit
 same-check score journal s₁ s₂ e =
     let turned = reply.Score (verdict score) in
     let end = check.checked score journal in
-    let t = not (eqb (numberOf (verdict score)) 0) in
+    let t = not (eqb (verdictNumber (verdict score)) 0) in
     let f = formOf true (sizes score .tokens) journal in
     ap (λ n. checkBy turned end t (not (eqb n scratchBytes)) f s₁ .reply) e ∙ alike-check s₁ s₂ turned end t (not (eqb (length s₂) scratchBytes)) f
 

@@ -15,7 +15,7 @@ use Rattle.laws.proofs.Booleans.{true-is-false, by-test}
 use Rattle.tcc.specs.Instant.{after}
 use Rattle.format.specs.Decode.{sizes, decode}
 use Rattle.check_verdicts.specs.declared.Verdict.{Verdict}
-use Rattle.check_verdicts.specs.Verdicts as verdicts
+use Rattle.check_verdicts.specs.Verdicts.{verdictNumber, verdictValue}
 use Rattle.check_verdicts.proofs.Verdicts.{number-few}
 use Rattle.check_score.specs.Check as check
 use Rattle.lent.specs.States.{stateFault, asBytes, instantNumber, lastNumber, atLast}
@@ -30,7 +30,7 @@ use Rattle.score_answer.proofs.Replies.{reply-number}
 use Rattle.claims_demands.proofs.Accepted.{given, next-faultless, input-known}
 
 pub record Fit (score input : List ℕ) (l : Lent) : Type 0 where
-  pub accepted : verdicts.numberOf (check.verdict score) ≡ 0
+  pub accepted : verdictNumber (check.verdict score) ≡ 0
   pub long : lengthFault input l ≡ false
   pub faultless : stateFault (sizes score .agents) (l .state) ≡ false
   pub known : tokenFault score input ≡ false
@@ -41,14 +41,14 @@ pub data Outcome (score input : List ℕ) (l : Lent) : Exit → Type 0 where
   answers : Fit score input l → Outcome score input l (answered (decode score) (l .state) (given score (l .state) (tokensIn input)))
 
 module _ (score input : List ℕ) (l : Lent) where
-  turned-down : (v : Verdict) → (verdicts.numberOf v ≡ 0 → ⊥) → Outcome score input l (kept l (Turned v))
-  turned-down v n = refuses (Turned v) (λ e. n (sym (reply-number (verdicts.numberOf v) (verdicts.valueOf v)) ∙ e)) (λ e. omega (arith, number-few v, reply-number (verdicts.numberOf v) (verdicts.valueOf v)))
+  turned-down : (v : Verdict) → (verdictNumber v ≡ 0 → ⊥) → Outcome score input l (kept l (Turned v))
+  turned-down v n = refuses (Turned v) (λ e. n (sym (reply-number (verdictNumber v) (verdictValue v)) ∙ e)) (λ e. omega (arith, number-few v, reply-number (verdictNumber v) (verdictValue v)))
 
   pub outcome : Outcome score input l (exit score input l)
   unfolding exit
   outcome =
-      by-test (Outcome score input l) (not (eqb (verdicts.numberOf (check.verdict score)) 0)) (λ e. turned-down (check.verdict score) (eqb-false (verdicts.numberOf (check.verdict score)) 0 (not-true (eqb (verdicts.numberOf (check.verdict score)) 0) e)))
-      (λ ok. let accepted = eqb-true (verdicts.numberOf (check.verdict score)) 0 (not-false (eqb (verdicts.numberOf (check.verdict score)) 0) ok) in
+      by-test (Outcome score input l) (not (eqb (verdictNumber (check.verdict score)) 0)) (λ e. turned-down (check.verdict score) (eqb-false (verdictNumber (check.verdict score)) 0 (not-true (eqb (verdictNumber (check.verdict score)) 0) e)))
+      (λ ok. let accepted = eqb-true (verdictNumber (check.verdict score)) 0 (not-false (eqb (verdictNumber (check.verdict score)) 0) ok) in
       by-test (Outcome score input l) (lengthFault input l) (λ e. refuses Lengths (λ z. omega arith) (λ z. omega arith))
       (λ long. by-test (Outcome score input l) (stateFault (sizes score .agents) (l .state)) (λ e. refuses State (λ z. omega arith) (λ z. omega arith))
       (λ faultless. by-test (Outcome score input l) (tokenFault score input) (λ e. refuses Input (λ z. omega arith) (λ z. omega arith))

@@ -18,7 +18,7 @@ use native.Mathlib.Omega.{arith}
 use lib.ListN.{length}
 use Rattle.tcc.specs.Instant.{output, after}
 use Rattle.format.specs.Decode.{sizes, decode}
-use Rattle.check_verdicts.specs.Verdicts as verdicts
+use Rattle.check_verdicts.specs.Verdicts.{verdictNumber}
 use Rattle.check_score.specs.Check as check
 use Rattle.lent.specs.Lengths.{stateBytes}
 use Rattle.lent.specs.States.{stateFault, stateOf, instantNumber, nextBytes, atLast, SameState}
@@ -49,7 +49,7 @@ madeBy score s inputs =
     }
 
 pub record IsInstant (score : List ℕ) (p : Answered) : Type 0 where
-  pub accepted : verdicts.numberOf (check.verdict score) ≡ 0
+  pub accepted : verdictNumber (check.verdict score) ≡ 0
   pub long : length (p .before) ≡ stateBytes
   pub faultless : stateFault (sizes score .agents) (p .before) ≡ false
   pub known : Known score (p .inputs)

@@ -14,7 +14,7 @@ use Rattle.tcc.specs.Instant.{startState, after}
 use Rattle.words.specs.Word.{words}
 use Rattle.format.specs.Decode.{sizes, decode}
 use Rattle.format.proofs.Decode.{decode-tokens}
-use Rattle.check_verdicts.specs.Verdicts as verdicts
+use Rattle.check_verdicts.specs.Verdicts.{verdictNumber}
 use Rattle.check_score.specs.Check as check
 use Rattle.bits.specs.Bits.{bytesOf}
 use Rattle.lent.specs.States.{stateFault, asBytes, instantNumber, startBytes, nextBytes, lastNumber, atLast, LawfulState}
@@ -57,7 +57,7 @@ zero-accepted score state read (ws ∷ more) =
     go false true r rest z = rest z
     go false false r rest z = absurd (omega arith)
 
-module _ (score : List ℕ) (accepted : verdicts.numberOf (check.verdict score) ≡ 0) where
+module _ (score : List ℕ) (accepted : verdictNumber (check.verdict score) ≡ 0) where
   pub start-stands : Stands score (lawful score accepted) (agents-counted score accepted) (startBytes (decode score)) (startState (decode score))
   unfolding LawfulState
   start-stands =

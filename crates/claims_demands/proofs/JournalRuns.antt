@@ -10,7 +10,7 @@ use lib.ListN.{length, take, drop}
 use lib.Seq.{length-take-le}
 use Rattle.tcc.specs.Instant.{startState}
 use Rattle.format.specs.Decode.{decode}
-use Rattle.check_verdicts.specs.Verdicts.{numberOf}
+use Rattle.check_verdicts.specs.Verdicts.{verdictNumber}
 use Rattle.check_score.specs.Check.{verdict}
 use Rattle.bits.specs.Bits.{bytesOf}
 use Rattle.lent.specs.States.{instantNumber, startBytes, lastNumber}
@@ -30,7 +30,7 @@ use Rattle.claims_demands.proofs.Runs.{Ended, refused, ran, run-ended}
 use Rattle.claims_demands.proofs.JournalChecks.{start-stands}
 
 module _ (score inputs : List ℕ) (before after : Lent) (answer : ℕ) (c : ScoreRun score inputs before after answer) where
-  pub run-writes : numberOf (verdict score) ≡ 0 → before .state ≡ startBytes (decode score) →
+  pub run-writes : verdictNumber (verdict score) ≡ 0 → before .state ≡ startBytes (decode score) →
       after .journal ≡ bytesOf (startHistory score inputs (written answer)) ++ drop (4 * length (startHistory score inputs (written answer))) (before .journal)
   unfolding history bytesOf
   run-writes accepted at = go (run-ended c)

@@ -12,7 +12,7 @@ use lib.ListN.{length, take, replicate, length-replicate}
 use Rattle.tcc.specs.Instant.{Answer, after}
 use Rattle.format.specs.Decode.{sizes, decode}
 use Rattle.format.proofs.Decode.{decode-tokens, sizes-few}
-use Rattle.check_verdicts.specs.Verdicts as verdicts
+use Rattle.check_verdicts.specs.Verdicts.{verdictNumber}
 use Rattle.check_score.specs.Check as check
 use Rattle.lent.specs.Lengths.{stateBytes, mapBytes, scratchBytes, noScratch}
 use Rattle.lent.specs.States.{stateFault, instantNumber, nextBytes, atLast}
@@ -52,7 +52,7 @@ module _ (score : List ℕ) where
   plays-linked rises none = linked.none
   plays-linked rises (then {inputs = inputs} at c n x) = linked.then at (played-instant (rises inputs (List·Memᴰ·head refl)) c n) (plays-linked (λ l m. rises l (List·Memᴰ·tail m)) x)
 
-  module _ (accepted : verdicts.numberOf (check.verdict score) ≡ 0) where
+  module _ (accepted : verdictNumber (check.verdict score) ≡ 0) where
     -- the instants of a list, so many of them
     abbrev Some : List ℕ → ℕ → List (List ℕ) → Type 0
     Some s n lists = (played : List Answered) × (last : List ℕ) × Plays score s (take n lists) played last

@@ -17,7 +17,7 @@ use Rattle.tcc.specs.Instant.{Answer, after}
 use Rattle.format.specs.Decode.{sizes, decode}
 use Rattle.format.proofs.Decode.{decode-tokens}
 use Rattle.check_verdicts.specs.declared.Verdict.{Verdict}
-use Rattle.check_verdicts.specs.Verdicts as verdicts
+use Rattle.check_verdicts.specs.Verdicts.{verdictNumber, verdictValue}
 use Rattle.check_verdicts.proofs.Verdicts.{number-few}
 use Rattle.check_score.specs.Check as check
 use Rattle.lent.specs.Lengths.{stateBytes, scratchBytes}
@@ -45,7 +45,7 @@ abbrev pub Rises : List ℕ → List (List ℕ) → Type 0
 Rises score lists = (l : List ℕ) → List·Memᴰ l lists → RisingBelow (decode score .tokens) l
 
 pub record Fit (score inputs : List ℕ) (l : Lent) : Type 0 where
-  pub accepted : verdicts.numberOf (check.verdict score) ≡ 0
+  pub accepted : verdictNumber (check.verdict score) ≡ 0
   pub long : length (l .state) ≡ stateBytes
   pub faultless : stateFault (sizes score .agents) (l .state) ≡ false
   pub rising : Rises score (inputLists inputs)
@@ -58,7 +58,7 @@ pub data Outcome (score inputs : List ℕ) (l : Lent) : Exit → Type 0 where
   runs : Fit score inputs l → (ranOn score inputs l .stop ≡ Next → ⊥) → Outcome score inputs l (ended l (ranOn score inputs l))
 
 -- no instant is stopped by 11
-module _ (score : List ℕ) (accepted : verdicts.numberOf (check.verdict score) ≡ 0) where
+module _ (score : List ℕ) (accepted : verdictNumber (check.verdict score) ≡ 0) where
   pub never-next : (lists : List (List ℕ)) → Rises score lists → (s : List ℕ) → stateFault (sizes score .agents) s ≡ false → (room : ℕ) → runFrom score s room lists .stop ≡ Next → ⊥
   unfolding runFrom answerIn stopAt
   never-next [] rises s faultless room = λ e. let z : _≡_ {A = ℕ} 0 1 = cc in omega arith
@@ -85,9 +85,9 @@ first-false true b e = absurd (true-is-false refl e)
 first-false false b e = refl
 
 module _ (score inputs : List ℕ) (l : Lent) where
-  turned-down : (v : Verdict) → (verdicts.numberOf v ≡ 0 → ⊥) → Outcome score inputs l (kept l (Turned v))
+  turned-down : (v : Verdict) → (verdictNumber v ≡ 0 → ⊥) → Outcome score inputs l (kept l (Turned v))
   turned-down v n =
-      let m = reply-number (verdicts.numberOf v) (verdicts.valueOf v) in
+      let m = reply-number (verdictNumber v) (verdictValue v) in
       refuses (Turned v) (λ e. n (sym m ∙ e)) (λ e. omega (arith, number-few v, m)) (λ e. omega (arith, number-few v, m)) (λ e. omega (arith, number-few v, m))
 
   formed : (f : Form) → formOf false (sizes score .tokens) inputs ≡ f → (f ≡ Good → Outcome score inputs l (ended l (ranOn score inputs l))) → Outcome score inputs l (byForm f (kept l) (ended l (ranOn score inputs l)))
@@ -98,7 +98,7 @@ module _ (score inputs : List ℕ) (l : Lent) where
   pub outcome : Outcome score inputs l (exit score inputs l)
   unfolding exit
   outcome =
-      let n = verdicts.numberOf (check.verdict score) in
+      let n = verdictNumber (check.verdict score) in
       by-test (Outcome score inputs l) (not (eqb n 0)) (λ e. turned-down (check.verdict score) (eqb-false n 0 (not-true (eqb n 0) e)))
       (λ ok. let accepted = eqb-true n 0 (not-false (eqb n 0) ok) in
       by-test (Outcome score inputs l) (lengthFault l) (λ e. refuses Lengths (λ z. omega arith) (λ z. omega arith) (λ z. omega arith) (λ z. omega arith))

@@ -11,7 +11,7 @@ use Prim.Native.Nat.{ℕ, _*_, _≤_}
 use lib.ListN.{length, take, drop}
 use Rattle.tcc.specs.Instant.{startState}
 use Rattle.format.specs.Decode.{decode}
-use Rattle.check_verdicts.specs.Verdicts.{numberOf}
+use Rattle.check_verdicts.specs.Verdicts.{verdictNumber}
 use Rattle.check_score.specs.Check.{verdict}
 use Rattle.bits.specs.Bits.{bytesOf}
 use Rattle.lent.specs.States.{startBytes, lastNumber}
@@ -26,7 +26,7 @@ use Rattle.claims_demands.specs.Calls.{written}
 
 abbrev pub Exactly : Type 0
 Exactly =
-    (score journal before after : List ℕ) (answer n : ℕ) → numberOf (verdict score) ≡ 0 → length before ≡ scratchBytes →
+    (score journal before after : List ℕ) (answer n : ℕ) → verdictNumber (verdict score) ≡ 0 → length before ≡ scratchBytes →
     ScoreJournalCheck score journal before after answer →
     ((numberIn answer ≡ 0) × (valueIn answer ≡ n) → IsHistory (decode score) (startState (decode score)) journal n × (n ≤ lastNumber))
     × (IsHistory (decode score) (startState (decode score)) journal n → n ≤ lastNumber → (numberIn answer ≡ 0) × (valueIn answer ≡ n))
@@ -36,7 +36,7 @@ startHistory score inputs n = history (decode score) (startState (decode score))
 
 abbrev pub RunsAccepted : Type 0
 RunsAccepted =
-    (score inputs : List ℕ) (before after : Lent) (answer : ℕ) → numberOf (verdict score) ≡ 0 →
+    (score inputs : List ℕ) (before after : Lent) (answer : ℕ) → verdictNumber (verdict score) ≡ 0 →
     before .state ≡ startBytes (decode score) → ScoreRun score inputs before after answer →
     (after .journal ≡ bytesOf (startHistory score inputs (written answer)) ++ drop (4 * length (startHistory score inputs (written answer))) (before .journal))
     × ((scratch scratch′ : List ℕ) (checked : ℕ) → length scratch ≡ scratchBytes →

@@ -22,7 +22,7 @@ use Rattle.format.specs.declared.Sizes.{Sizes}
 use Rattle.format.specs.Format.{isWord, decodeAgent, isFact, isRule, ruleOf}
 use Rattle.format.specs.Decode.{sizes, decode}
 use Rattle.format.proofs.Rule.{word-kind, rule-plain, rule-kind, premises-plain}
-use Rattle.check_verdicts.specs.Verdicts.{numberOf, orElse}
+use Rattle.check_verdicts.specs.Verdicts.{verdictNumber, orElse}
 use Rattle.check_verdicts.specs.declared.Verdict.the-variants.{Circle}
 use Rattle.check_verdicts.proofs.Verdicts.{accepted-only}
 use Rattle.check_words.specs.WordFaults.{portsVerdict, agentVerdict, rootVerdict, ruleVerdict}
@@ -86,7 +86,7 @@ module _ (s : List ℕ) (no-fact : NoFact s) where
       (faults-before (sizes s) 1 (drop 1 (words s)) (λ i lt le. rw (getD-drop 1 (words s) i 0) (no-fact (1 + i) le (omega (arith, length-drop 1 (words s))))))
       (circles-before s 0 (length (decode s .roots)))
 
-  pub score-before : numberOf (verdict s) ≡ 0 → decode s ≡ decodeBefore s
+  pub score-before : verdictNumber (verdict s) ≡ 0 → decode s ≡ decodeBefore s
   unfolding decode
   score-before accepted =
       let start = 2 + sizes s .agents + sizes s .procedures in

@@ -15,7 +15,7 @@ use Rattle.tcc.specs.Instant.{answer, after}
 use Rattle.words.specs.Word.{words}
 use Rattle.format.specs.Decode.{sizes}
 use Rattle.check_verdicts.specs.declared.Verdict.{Verdict}
-use Rattle.check_verdicts.specs.Verdicts.{numberOf}
+use Rattle.check_verdicts.specs.Verdicts.{verdictNumber}
 use Rattle.check_score.specs.Check.{verdict}
 use Rattle.lent.specs.Lengths.{scratchBytes, noScratch}
 use Rattle.lent.specs.States.{stateFault, stateOf, asBytes, startBytes, nextBytes, atLast}
@@ -38,16 +38,16 @@ use Rattle.claims_facts.specs.WithoutFacts.{decodeBefore, verdictBefore,
 use Rattle.claims_facts.proofs.Before.{word-before, verdict-before, score-before}
 
 module _ (score : List ℕ) (no-fact : NoFact score) where
-  turned-before : {E : Type 0} (down : Verdict → E) (on on′ : E) → (numberOf (verdict score) ≡ 0 → on ≡ on′) →
-      cond (not (eqb (numberOf (verdict score)) 0)) (down (verdict score)) on ≡ cond (not (eqb (numberOf (verdictBefore score)) 0)) (down (verdictBefore score)) on′
-  turned-before {E} down on on′ same-on = subst (λ v. by (verdict score) on ≡ by v on′) (verdict-before score no-fact) (go (ℕ-discrete (numberOf (verdict score)) 0))
+  turned-before : {E : Type 0} (down : Verdict → E) (on on′ : E) → (verdictNumber (verdict score) ≡ 0 → on ≡ on′) →
+      cond (not (eqb (verdictNumber (verdict score)) 0)) (down (verdict score)) on ≡ cond (not (eqb (verdictNumber (verdictBefore score)) 0)) (down (verdictBefore score)) on′
+  turned-before {E} down on on′ same-on = subst (λ v. by (verdict score) on ≡ by v on′) (verdict-before score no-fact) (go (ℕ-discrete (verdictNumber (verdict score)) 0))
     where
       by : Verdict → E → E
-      by v x = cond (not (eqb (numberOf v) 0)) (down v) x
+      by v x = cond (not (eqb (verdictNumber v) 0)) (down v) x
 
-      go : Dec (numberOf (verdict score) ≡ 0) → by (verdict score) on ≡ by (verdict score) on′
-      go (yes e) = rw (eq-eqb (numberOf (verdict score)) 0 e) (same-on e)
-      go (no n) = rw (ne-eqb (numberOf (verdict score)) 0 n)
+      go : Dec (verdictNumber (verdict score) ≡ 0) → by (verdict score) on ≡ by (verdict score) on′
+      go (yes e) = rw (eq-eqb (verdictNumber (verdict score)) 0 e) (same-on e)
+      go (no n) = rw (ne-eqb (verdictNumber (verdict score)) 0 n)
 
   instant-before : (input : List ℕ) (l : Lent) → exit score input l ≡ instantBefore score input l
   unfolding exit
@@ -60,7 +60,7 @@ module _ (score : List ℕ) (no-fact : NoFact score) where
       (cond (stateFault (sizes score .agents) (asBytes (after a))) (cleared l Next) (answered sc (l .state) a))))))
       (score-before score no-fact accepted))
 
-  module _ (accepted : numberOf (verdict score) ≡ 0) where
+  module _ (accepted : verdictNumber (verdict score) ≡ 0) where
     run-from-before : (l : List (List ℕ)) (state : List ℕ) (room : ℕ) → runFrom score state room l ≡ runFromBefore score state room l
     unfolding runFrom answerIn
     run-from-before [] state room = refl
@@ -103,7 +103,7 @@ module _ (score : List ℕ) (no-fact : NoFact score) where
   calls-before : CallsBefore score
   calls-before = record {
     verdict-is = verdict-before score no-fact;
-    score-is = λ e. score-before score no-fact (ap numberOf (verdict-before score no-fact) ∙ e);
+    score-is = λ e. score-before score no-fact (ap verdictNumber (verdict-before score no-fact) ∙ e);
     checks = λ a c. c .answered ∙ ap (λ v. packed (ofVerdict v)) (verdict-before score no-fact);
     instants = λ input l m a c. (c .written ∙ ap (λ x. x .lent) (instant-before input l), c .answered ∙ ap (λ x. packed (ofReply (x .reply))) (instant-before input l));
     runs = λ inputs l m a c. (c .written ∙ ap (λ x. x .lent) (run-before inputs l), c .answered ∙ ap (λ x. packed (ofRunReply (x .reply))) (run-before inputs l));

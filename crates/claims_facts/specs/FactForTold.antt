@@ -15,7 +15,7 @@ use lib.ListN.{length}
 use Rattle.tcc.specs.Instant.{Answer, startState, answers}
 use Rattle.words.specs.Word.{words}
 use Rattle.format.specs.Decode.{sizes, decode}
-use Rattle.check_verdicts.specs.Verdicts.{numberOf}
+use Rattle.check_verdicts.specs.Verdicts.{verdictNumber}
 use Rattle.check_score.specs.Check.{verdict}
 use Rattle.lent.specs.Lengths.{scratchBytes}
 use Rattle.lent_maps.specs.Maps.{tokensIn}
@@ -28,8 +28,8 @@ abbrev pub factWord : ℕ → ℕ
 factWord t = 2 * 2 ^ 28 + 2 ^ 27 + t
 
 pub record AddsFact (t : ℕ) (score score′ : List ℕ) : Type 0 where
-  pub accepted : numberOf (verdict score) ≡ 0
-  pub accepted′ : numberOf (verdict score′) ≡ 0
+  pub accepted : verdictNumber (verdict score) ≡ 0
+  pub accepted′ : verdictNumber (verdict score′) ≡ 0
   pub known : t < sizes score .tokens
   pub front : List ℕ
   pub rest : List ℕ

@@ -24,7 +24,7 @@ use Rattle.format.specs.Format.{isWord, agentOf, decodeAgent, ruleOf}
 use Rattle.format.specs.Decode.{sizes, decode}
 use Rattle.check_verdicts.specs.declared.Verdict.{Verdict}
 use Rattle.check_verdicts.specs.declared.Verdict.the-variants.{Accepted}
-use Rattle.check_verdicts.specs.Verdicts.{numberOf, orElse}
+use Rattle.check_verdicts.specs.Verdicts.{verdictNumber, orElse}
 use Rattle.check_words.specs.WordFaults.{atWord, portsVerdict, agentVerdict, rootVerdict, ruleVerdict}
 use Rattle.check_faults.specs.Faults.{lengthVerdict, headVerdict, countVerdict}
 use Rattle.check_circles.specs.Circles.{circleFrom}
@@ -94,7 +94,7 @@ playedBefore score l a = cond (stateFault (sizes score .agents) (asBytes (after 
 
 abbrev pub instantBefore : List ℕ → List ℕ → Lent → Exit
 instantBefore score input l =
-    cond (not (eqb (numberOf (verdictBefore score)) 0)) (kept l (Turned (verdictBefore score)))
+    cond (not (eqb (verdictNumber (verdictBefore score)) 0)) (kept l (Turned (verdictBefore score)))
     (cond (lengthFault input l) (kept l Lengths)
     (cond (stateFault (sizes score .agents) (l .state)) (kept l State)
     (cond (tokenFault score input) (kept l Input)
@@ -110,7 +110,7 @@ runFromBefore score state room (inputs ∷ more) =
 
 abbrev pub runBefore : List ℕ → List ℕ → run.Lent → run.Exit
 runBefore score inputs l =
-    cond (not (eqb (numberOf (verdictBefore score)) 0)) (run.kept l (reply.Score (verdictBefore score)))
+    cond (not (eqb (verdictNumber (verdictBefore score)) 0)) (run.kept l (reply.Score (verdictBefore score)))
     (cond (run.lengthFault l) (run.kept l reply.Lengths)
     (cond (stateFault (sizes score .agents) (l .state)) (run.kept l reply.State)
     (byForm (formOf false (sizes score .tokens) inputs) (run.kept l)
@@ -125,7 +125,7 @@ checkFromBefore score state read (ws ∷ more) =
 
 abbrev pub checkBefore : List ℕ → List ℕ → List ℕ → journalcheck.Exit
 checkBefore score journal scratch =
-    cond (not (eqb (numberOf (verdictBefore score)) 0)) (journalcheck.left scratch (reply.Score (verdictBefore score)))
+    cond (not (eqb (verdictNumber (verdictBefore score)) 0)) (journalcheck.left scratch (reply.Score (verdictBefore score)))
     (cond (not (eqb (length scratch) scratchBytes)) (journalcheck.left scratch reply.Lengths)
     (byForm (formOf true (sizes score .tokens) journal) (journalcheck.left scratch)
     (journalcheck.left noScratch (checkFromBefore score (startBytes (decodeBefore score)) 0 (instantsIn (words journal))))))
@@ -139,7 +139,7 @@ NoFact s = (k : ℕ) → 2 + sizes s .agents + sizes s .procedures ≤ k → k <
 
 pub record CallsBefore (score : List ℕ) : Type 0 where
   pub verdict-is : verdict score ≡ verdictBefore score
-  pub score-is : numberOf (verdictBefore score) ≡ 0 → decode score ≡ decodeBefore score
+  pub score-is : verdictNumber (verdictBefore score) ≡ 0 → decode score ≡ decodeBefore score
   pub checks : (a : ℕ) → CheckCall score a → a ≡ packed (ofVerdict (verdictBefore score))
   pub instants : (input : List ℕ) (l m : Lent) (a : ℕ) → ScoreInstant score input l m a →
       (m ≡ instantBefore score input l .lent) × (a ≡ packed (ofReply (instantBefore score input l .reply)))

@@ -11,7 +11,7 @@ use lib.Dec.{eqb}
 use lib.ListN.{length, drop}
 use Rattle.tcc.specs.Instant.{State, answer, after}
 use Rattle.format.specs.Decode.{sizes, decode}
-use Rattle.check_verdicts.specs.Verdicts.{numberOf}
+use Rattle.check_verdicts.specs.Verdicts.{verdictNumber}
 use Rattle.check_score.specs.Check.{verdict}
 use Rattle.bits.specs.Bits.{bytesOf}
 use Rattle.lent.specs.Lengths.{stateBytes, mapBytes, scratchBytes, noScratch}
@@ -58,7 +58,7 @@ module _ (score input store output scratch : List ℕ) where
   exitBy n fault st last s =
       let l = lent s store output scratch in
       let a = answer (decode score) st (tokensIn input) in
-      cond (not (eqb (numberOf (verdict score)) 0)) (kept l (Turned (verdict score)))
+      cond (not (eqb (verdictNumber (verdict score)) 0)) (kept l (Turned (verdict score)))
       (cond (not (eqb n stateBytes) || not (eqb (length input) mapBytes) || not (eqb (length store) mapBytes) || not (eqb (length output) mapBytes) || not (eqb (length scratch) scratchBytes)) (kept l Lengths)
       (cond fault (kept l BadState)
       (cond (tokenFault score input) (kept l Input)
@@ -80,7 +80,7 @@ module _ (score input store output scratch : List ℕ) where
     by-tests : (n : ℕ) (fault last : Bool) (st : State) → AlikeExits (exitBy n fault st last s) (exitBy n fault st last t)
     by-tests n fault last st =
         let a = answer (decode score) st (tokensIn input) in
-        both (not (eqb (numberOf (verdict score)) 0)) (stays scratch (Turned (verdict score)))
+        both (not (eqb (verdictNumber (verdict score)) 0)) (stays scratch (Turned (verdict score)))
         (both (not (eqb n stateBytes) || not (eqb (length input) mapBytes) || not (eqb (length store) mapBytes) || not (eqb (length output) mapBytes) || not (eqb (length scratch) scratchBytes)) (stays scratch Lengths)
         (both fault (stays scratch BadState)
         (both (tokenFault score input) (stays scratch Input)
@@ -119,7 +119,7 @@ module _ (score inputs journal scratch : List ℕ) where
   abbrev runBy : ℕ → Bool → List ℕ → run.Exit
   runBy n fault s =
       let l = run.lent s journal scratch in
-      cond (not (eqb (numberOf (verdict score)) 0)) (run.kept l (reply.Score (verdict score)))
+      cond (not (eqb (verdictNumber (verdict score)) 0)) (run.kept l (reply.Score (verdict score)))
       (cond (not (eqb n stateBytes) || not (eqb (length scratch) scratchBytes)) (run.kept l reply.Lengths)
       (cond fault (run.kept l reply.State)
       (byForm (formOf false (sizes score .tokens) inputs) (run.kept l) (run.ended l (runFrom score s (length journal) (inputLists inputs))))))
@@ -147,7 +147,7 @@ module _ (score inputs journal scratch : List ℕ) where
     alike-runs : AlikeRuns (run.exit score inputs (run.lent s journal scratch)) (run.exit score inputs (run.lent t journal scratch))
     unfolding run.exit
     alike-runs = rw looked-run
-        (both-runs (not (eqb (numberOf (verdict score)) 0)) (stays-run (reply.Score (verdict score)))
+        (both-runs (not (eqb (verdictNumber (verdict score)) 0)) (stays-run (reply.Score (verdict score)))
         (both-runs (not (eqb (length s) stateBytes) || not (eqb (length scratch) scratchBytes)) (stays-run reply.Lengths)
         (both-runs (stateFault (sizes score .agents) s) (stays-run reply.State) (by-form (formOf false (sizes score .tokens) inputs)))))
       where

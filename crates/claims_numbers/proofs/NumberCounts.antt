@@ -13,7 +13,7 @@ use lib.ListN.{length}
 use Rattle.laws.proofs.Booleans.{by-test}
 use Rattle.tcc.specs.Instant.{startState, after}
 use Rattle.format.specs.Decode.{sizes, decode}
-use Rattle.check_verdicts.specs.Verdicts as verdicts
+use Rattle.check_verdicts.specs.Verdicts.{verdictNumber, verdictValue}
 use Rattle.check_verdicts.proofs.Verdicts.{number-few as verdict-few}
 use Rattle.check_score.specs.Check as check
 use Rattle.lent.specs.States.{stateFault, asBytes, instantNumber, lastNumber, atLast}
@@ -92,7 +92,7 @@ module _ (score input : List ℕ) (l : Lent) where
   unfolding exit
   there =
       let v = check.verdict score in
-      by-test There (not (eqb (verdicts.numberOf v) 0)) (λ e. record { at-last = λ n. absurd (omega (arith, verdict-few v, reply-number (verdicts.numberOf v) (verdicts.valueOf v))) })
+      by-test There (not (eqb (verdictNumber v) 0)) (λ e. record { at-last = λ n. absurd (omega (arith, verdict-few v, reply-number (verdictNumber v) (verdictValue v))) })
       (λ e. by-test There (lengthFault input l) (λ e. record { at-last = λ n. absurd (omega arith) })
       (λ e. by-test There (stateFault (sizes score .agents) (l .state)) (λ e. record { at-last = λ n. absurd (omega arith) })
       (λ e. by-test There (tokenFault score input) (λ e. record { at-last = λ n. absurd (omega arith) })

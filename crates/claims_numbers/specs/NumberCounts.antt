@@ -12,7 +12,7 @@ use mathlib.Core.List.{List, _∷_, _++_}
 use Prim.Native.Nat.{ℕ, _+_, _<_, _≤_}
 use lib.ListN.{length}
 use Rattle.format.specs.Decode.{decode}
-use Rattle.check_verdicts.specs.Verdicts.{numberOf}
+use Rattle.check_verdicts.specs.Verdicts.{verdictNumber}
 use Rattle.check_score.specs.Check.{verdict}
 use Rattle.bits.specs.Bits.{bytesOf}
 use Rattle.lent.specs.Lengths.{scratchBytes}
@@ -41,7 +41,7 @@ abbrev pub JournalNumber : Type 0
 JournalNumber =
     (score inputs : List ℕ) (before after : RunLent) (answer : ℕ) → before .state ≡ startBytes (decode score) → ScoreRun score inputs before after answer →
     (instantNumber (after .state) ≡ written answer)
-    × ((scratch scratch′ : List ℕ) (checked : ℕ) → numberOf (verdict score) ≡ 0 → length scratch ≡ scratchBytes →
+    × ((scratch scratch′ : List ℕ) (checked : ℕ) → verdictNumber (verdict score) ≡ 0 → length scratch ≡ scratchBytes →
     ScoreJournalCheck score (bytesOf (startHistory score inputs (written answer))) scratch scratch′ checked →
     (numberIn checked ≡ 0) × (valueIn checked ≡ instantNumber (after .state)))
 

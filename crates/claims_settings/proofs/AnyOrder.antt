@@ -8,7 +8,7 @@ use Prim.Native.Nat.{ℕ, suc}
 use lib.Dec.{eqb, leb}
 use lib.ListN.{length}
 use Rattle.format.specs.Decode.{sizes, decode}
-use Rattle.check_verdicts.specs.Verdicts.{numberOf}
+use Rattle.check_verdicts.specs.Verdicts.{verdictNumber}
 use Rattle.check_score.specs.Check.{verdict}
 use Rattle.lent.specs.Lengths.{stateBytes}
 use Rattle.lent.specs.States.{stateFault, stateOf}
@@ -30,7 +30,7 @@ module _ (score state switches others : List ℕ) (k : ℕ) (h : Reordered switc
   unfolding reply
   reply-same =
       ap₂ (λ (fault : Bool) (c : Counts).
-      cond (not (eqb (numberOf (verdict score)) 0)) (Turned (verdict score))
+      cond (not (eqb (verdictNumber (verdict score)) 0)) (Turned (verdict score))
       (cond (not (eqb (length state) stateBytes)) Lengths
       (cond (stateFault (sizes score .agents) state) State
       (cond fault Switches (Counted c)))))

@@ -7,7 +7,7 @@ use mathlib.Core.List.{List}
 use Prim.Native.Nat.{ℕ, zero, suc, _<_, _≤_}
 use native.Mathlib.Omega.{arith}
 use Rattle.format.specs.Decode.{decode}
-use Rattle.check_verdicts.specs.Verdicts as verdicts
+use Rattle.check_verdicts.specs.Verdicts.{verdictNumber, verdictValue}
 use Rattle.check_score.specs.Check as check
 use Rattle.lent.specs.States.{stateOf}
 use Rattle.settings_tried.specs.Settings.{settings, counts, ending}
@@ -48,7 +48,7 @@ module _ {score state switches : List ℕ} {k answer : ℕ} where
       go : (r : Replied) → reply score state switches k ≡ r → Outcome score state switches k r → Found score state switches k answer
       go r q (turned not-zero) =
           let v = check.verdict score in
-          absurd (not-zero (sym (reply-number (verdicts.numberOf v) (verdicts.valueOf v)) ∙ number-is r q))
+          absurd (not-zero (sym (reply-number (verdictNumber v) (verdictValue v)) ∙ number-is r q))
       go r q lengths = absurd (omega (arith, number-is r q))
       go r q unlawful = absurd (omega (arith, number-is r q))
       go r q switched = absurd (omega (arith, number-is r q))
@@ -67,7 +67,7 @@ module _ {score state switches : List ℕ} {k answer : ℕ} where
       turned-none (suc n) v = refl
 
       go : (r : Replied) → reply score state switches k ≡ r → Outcome score state switches k r → numberIn answer ≡ 0
-      go r q (turned not-zero) = let v = check.verdict score in absurd (omega (arith, settings-are c r q status, turned-none (verdicts.numberOf v) (verdicts.valueOf v)))
+      go r q (turned not-zero) = let v = check.verdict score in absurd (omega (arith, settings-are c r q status, turned-none (verdictNumber v) (verdictValue v)))
       go r q lengths = absurd (omega (arith, settings-are c r q status))
       go r q unlawful = absurd (omega (arith, settings-are c r q status))
       go r q switched = absurd (omega (arith, settings-are c r q status))

@@ -11,7 +11,7 @@ use Prim.Native.Nat.{ℕ}
 use lib.ListN.{length, drop}
 use lib.Seq.{drop-at}
 use Rattle.format.specs.Decode.{decode}
-use Rattle.check_verdicts.specs.Verdicts.{numberOf}
+use Rattle.check_verdicts.specs.Verdicts.{verdictNumber}
 use Rattle.bits.specs.Bits.{bytesOf}
 use Rattle.lent.specs.Lengths.{scratchBytes}
 use Rattle.lent.specs.States.{startBytes}
@@ -52,7 +52,7 @@ module _ (draft before after : List ℕ) (answer : ℕ) (t : Translated draft be
   same-bytes before′ after′ answer′ t′ = plain-is t ∙ sym (plain-is t′)
 
   pub check-accepts : (checked : ℕ) → CheckCall (plainIn after answer) checked → numberIn checked ≡ 0
-  check-accepts checked c = read (plainIn after answer) checked c .0 ∙ ap numberOf (translation-exact draft before after answer t .0)
+  check-accepts checked c = read (plainIn after answer) checked c .0 ∙ ap verdictNumber (translation-exact draft before after answer t .0)
 
   pub one-journal : (instants : List (List ℕ)) (words words′ : List ℕ) → InputsKnown (decodeDraft draft .tokens) instants →
       Journal (decodeDraft draft) instants words → Journal (decodeDraft draft) instants words′ → words ≡ words′
@@ -63,4 +63,4 @@ module _ (draft before after : List ℕ) (answer : ℕ) (t : Translated draft be
       ScoreJournalCheck (plainIn after answer) (bytesOf (startHistory (plainIn after answer) inputs (written ran))) scratch scratch′ checked →
       (numberIn checked ≡ 0) × (valueIn checked ≡ written ran)
   journal-stands inputs scratch scratch′ lent left ran checked at c long d =
-      runs-accepted (plainIn after answer) inputs lent left ran (ap numberOf (translation-exact draft before after answer t .0)) at c .1 scratch scratch′ checked long d
+      runs-accepted (plainIn after answer) inputs lent left ran (ap verdictNumber (translation-exact draft before after answer t .0)) at c .1 scratch scratch′ checked long d

@@ -11,7 +11,7 @@ use Rattle.laws.proofs.Sets.{on-cons, same-refl}
 use Rattle.tcc.specs.Score as plain
 use Rattle.tcc.specs.Instant.{startState}
 use Rattle.format.specs.Decode.{decode}
-use Rattle.check_verdicts.specs.Verdicts.{numberOf}
+use Rattle.check_verdicts.specs.Verdicts.{verdictNumber}
 use Rattle.bits.specs.Bits.{bytesOf}
 use Rattle.journal_instants.specs.Instants.{inputLists}
 use Rattle.journal_words.specs.History.{history}
@@ -52,6 +52,6 @@ pub never-stopped : NeverStopped
 never-stopped draft before after answer t = (
   plays-unwatched t,
   λ inputs lent left ran at c known never.
-      runs-accepted (plainIn after answer) inputs lent left ran (ap numberOf (plain-accepted t)) at c .0
+      runs-accepted (plainIn after answer) inputs lent left ran (ap verdictNumber (plain-accepted t)) at c .0
       ∙ ap (λ w. bytesOf w ++ drop (4 * length w) (lent .journal)) (plays-unwatched t (take (written ran) (inputLists inputs)) (taken-known (decodeDraft draft) (written ran) (inputLists inputs) known) never),
 )

@@ -9,7 +9,7 @@ use Prim.Native.Nat.{ℕ, _*_, _≤_}
 use native.Mathlib.Omega.{arith}
 use lib.ListN.{length, take, drop}
 use Rattle.format.specs.Decode.{decode}
-use Rattle.check_verdicts.specs.Verdicts.{numberOf}
+use Rattle.check_verdicts.specs.Verdicts.{verdictNumber}
 use Rattle.bits.specs.Bits.{bytesOf}
 use Rattle.journal_instants.specs.Instants.{inputLists}
 use Rattle.journal_words.proofs.Rising.{rising-within}
@@ -28,7 +28,7 @@ module _ {draft before after : List ℕ} {answer : ℕ} (t : Translated draft be
 
   runs : RunsAsTheDraft draft (plainIn after answer)
   runs inputs lent left ran at c known words j =
-      runs-accepted (plainIn after answer) inputs lent left ran (ap numberOf (plain-accepted t)) at c .0
+      runs-accepted (plainIn after answer) inputs lent left ran (ap verdictNumber (plain-accepted t)) at c .0
       ∙ ap (λ w. bytesOf w ++ drop (4 * length w) (lent .journal)) (sym (shows (take (written ran) (inputLists inputs)) (taken-known (decodeDraft draft) (written ran) (inputLists inputs) known) .0 words j))
 
   tokens-more : decodeDraft draft .tokens ≤ decode (plainIn after answer) .tokens
@@ -36,7 +36,7 @@ module _ {draft before after : List ℕ} {answer : ℕ} (t : Translated draft be
 
   checks : ChecksAsTheDraft draft (plainIn after answer)
   checks instants words scratch left checked known rising few j long c =
-      exactly (plainIn after answer) (bytesOf words) scratch left checked (length instants) (ap numberOf (plain-accepted t)) long c .1
+      exactly (plainIn after answer) (bytesOf words) scratch left checked (length instants) (ap verdictNumber (plain-accepted t)) long c .1
       (record {
         inputs = instants;
         rising = λ l m. rising-within (rising l m) (λ u k. omega (arith, known l m u k, tokens-more));

@@ -17,7 +17,7 @@ use lib.Seq.{take-at}
 use Rattle.format.specs.Limits.{mostBytes}
 use Rattle.format.specs.Decode.{decode}
 use Rattle.check_verdicts.specs.declared.Verdict.the-variants.{Accepted}
-use Rattle.check_verdicts.specs.Verdicts as verdicts
+use Rattle.check_verdicts.specs.Verdicts.{verdictNumber, verdictValue}
 use Rattle.check_verdicts.proofs.Verdicts.{number-few}
 use Rattle.check_score.specs.Check.{verdict}
 use Rattle.draft_language.specs.Draft.{Draft, LawfulDraft}
@@ -26,8 +26,8 @@ use Rattle.draft_plain.specs.Plain.{plainOf, fits}
 use Rattle.encoding.specs.Encode.{scoreBytes}
 use Rattle.draft_format.specs.DraftFile.{draftVerdict, decodeDraft}
 use Rattle.draft_format.proofs.Draft.{accepted-lawful-draft}
-use Rattle.draft_contract.specs.TranslateCall.{Exit, exit}
-use Rattle.draft_contract.proofs.Plain.{plain-written, Outcome, turned, lengths, large, writes, outcome}
+use Rattle.draft_call.specs.TranslateCall.{Exit, exit}
+use Rattle.draft_call.proofs.Plain.{plain-written, Outcome, turned, lengths, large, writes, outcome}
 use Rattle.score_answer.specs.Answer.{numberOf, valueOf, numberIn, valueIn}
 use Rattle.score_answer.specs.Replies.{ofTranslation}
 use Rattle.score_answer.proofs.Replies.{reply-number}
@@ -63,8 +63,8 @@ module _ {draft before after : List ℕ} {answer : ℕ} (c : ScoreTranslate draf
       go : (e : Exit) → exit draft before ≡ e → Outcome draft before e → Ended draft before after answer
       go e q (turned n) =
           let v = draftVerdict draft in
-          let is : numberIn answer ≡ verdicts.numberOf v = number-is e q ∙ reply-number (verdicts.numberOf v) (verdicts.valueOf v) in
-          refused (λ z. n (sym is ∙ z)) (λ z. omega (arith, number-few v)) (λ a l. n (ap verdicts.numberOf a)) (plain-left e q)
+          let is : numberIn answer ≡ verdictNumber v = number-is e q ∙ reply-number (verdictNumber v) (verdictValue v) in
+          refused (λ z. n (sym is ∙ z)) (λ z. omega (arith, number-few v)) (λ a l. n (ap verdictNumber a)) (plain-left e q)
       go e q (lengths a n) = let is : numberIn answer ≡ 8 = number-is e q in refused (λ z. omega arith) (λ z. omega arith) (λ b l. n l) (plain-left e q)
       go e q (large a l f) = over f (number-is e q) (plain-left e q)
       go e q (writes a l f) = wrote (record { accepted = a; fit = f; number = number-is e q; value = value-is e q; plain = plain-left e q })

@@ -30,13 +30,13 @@ use Rattle.draft_plain.proofs.PlainLawful.{plain-lawful}
 use Rattle.encoding.specs.Encode.{headWord, portsWord, agentWord, rootWord, ruleWord, scoreWords, scoreBytes}
 use Rattle.encoding.proofs.ReadWords.{ports-again}
 use Rattle.encoding.proofs.ReadBack.{ports-formed}
-use Rattle.encoding.proofs.Written.{word-count}
+use Rattle.encoding.proofs.DecodesBack.{word-count}
 use Rattle.bits.specs.Put.{put}
 use Rattle.bits.proofs.Put.{put-then, put-next}
 use Rattle.draft_format.specs.DraftFile.{asWhens, draftVerdict, decodeDraft}
 use Rattle.draft_format.proofs.Draft.{words-kept}
-use Rattle.draft_counts.specs.declared.Counts.{Counts}
-use Rattle.draft_counts.specs.Gathered.{setsIn, Gathered}
+use Rattle.draft_gathering.specs.declared.Counts.{Counts}
+use Rattle.draft_gathering.specs.Gathered.{setsIn, Gathered}
 use Rattle.draft_rules.proofs.Rules.{gathered-rules}
 use Rattle.draft_rules.proofs.Asked.{sets-many}
 use Rattle.draft_words.proofs.Pairs.{agents-many, procedures-many}

@@ -7,9 +7,9 @@ ghost use Rattle.check_verdicts.specs.declared.Verdict.the-variants.{Accepted};
 ghost use Rattle.draft_plain.specs.Plain.{plainOf};
 ghost use Rattle.encoding.specs.Encode.{scoreBytes};
 ghost use Rattle.draft_format.specs.DraftFile.{draftVerdict, decodeDraft};
-ghost use Rattle.draft_counts.specs.Gathered.{Gathered};
-ghost use Rattle.draft_contract.specs.TranslateCall.{TranslateCall, LeftBy};
-use draft_counts::Counts;
+ghost use Rattle.draft_gathering.specs.Gathered.{Gathered};
+ghost use Rattle.draft_call.specs.TranslateCall.{TranslateCall, LeftBy};
+use draft_gathering::Counts;
 use draft_gathering::Gathering;
 use draft_plain::Reply;
 use draft_table::Table;
@@ -38,7 +38,7 @@ fn translate(draft: &[u8], plain: &mut [u8]) -> Reply
     let mut sets = [[0u64; 5]; draft_table::MOST];
     match draft_gathering::gather(draft, &mut table, &mut sets) {
         Gathering::Large => Reply::Large,
-        Gathering::Fits(counts) => Reply::Written(write(draft, &table, &sets, counts, plain)),
+        Gathering::Fits(counts) => Reply::Translated(write(draft, &table, &sets, counts, plain)),
     }
 }
 

@@ -1,2 +1,5 @@
+pub mod Translatable
+pub mod Leading
+pub mod Referring
 pub mod Copies
 pub mod Reading

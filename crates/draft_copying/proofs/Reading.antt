@@ -13,7 +13,7 @@ use denote.Enum.Declared.{tagOf}
 use Rattle.laws.proofs.Sets.{Within}
 use Rattle.tcc.specs.Score.{rootOf}
 use Rattle.format.specs.Decode.{sizes, decode}
-use Rattle.draft_language.specs.Draft.{writtenAt}
+use Rattle.draft_language.specs.Draft.{draftAgentAt}
 use Rattle.draft_pairs.specs.Pairs.{pair, numberIn, setIn}
 use Rattle.draft_pairs.proofs.TokenSets.{number-pair, set-bound}
 use Rattle.draft_plain.specs.Places.{procedureAt, target, leadsTo}
@@ -21,12 +21,12 @@ use Rattle.draft_plain.specs.Led.{Led}
 use Rattle.draft_plain.proofs.Places.{KnownAgent, leads-procedure}
 use Rattle.draft_format.specs.DraftFile.{decodeDraft}
 use Rattle.draft_format.specs.Translatable.{Translatable}
-use Rattle.draft_targets.specs.declared.References.{References}
-use Rattle.draft_targets.specs.declared.References.the-variants.{Nothing, Body, Halves, Procedure}
-use Rattle.draft_targets.proofs.References.{the-type}
-use Rattle.draft_targets.proofs.Translatable.{root-read}
-use Rattle.draft_targets.specs.Referring.{referencesOf}
-use Rattle.draft_targets.proofs.Referring.{leadsBy, RefersBelow, refers-leads, refers-below}
+use Rattle.draft_copying.specs.declared.targets.References.{References}
+use Rattle.draft_copying.specs.declared.targets.References.the-variants.{Nothing, Body, Halves, Procedure}
+use Rattle.draft_copying.proofs.targets.References.{the-type}
+use Rattle.draft_copying.proofs.Translatable.{root-read}
+use Rattle.draft_copying.specs.Referring.{referencesOf}
+use Rattle.draft_copying.proofs.Referring.{leadsBy, RefersBelow, refers-leads, refers-below}
 use Rattle.draft_copying.specs.Copied.{CopiedTo}
 use Rattle.draft_copying.proofs.Copies.{AllCopied, Entering, entered-led, copied-all}
 
@@ -46,7 +46,7 @@ pub record Reading (s : List ℕ) (key row count : ℕ) (before : List (List ℕ
   pub entering : Entering (decodeDraft s) key row count before r after
   pub room : r ≤ 1088
   pub agent : KnownAgent (decodeDraft s) row
-  pub is : refers ≡ referencesOf (writtenAt (decodeDraft s) (numberIn row))
+  pub is : refers ≡ referencesOf (draftAgentAt (decodeDraft s) (numberIn row))
 
 module _ {s : List ℕ} {key row count r : ℕ} {before after : List (List ℕ)} {refers x : References} (g : Reading s key row count before r after refers) (e : refers ≡ x) where
   leads : leadsTo (decodeDraft s) row ≡ leadsBy (decodeDraft s) (setIn row) x

@@ -1,1 +1,2 @@
+pub mod Referring
 pub mod Copied

@@ -1,4 +1,6 @@
-// The pairs of a draft, copied.
+// The pairs of a draft, copied; what its references lead to (`targets`).
+pub mod targets;
+
 ghost use mathlib.Core.Path.{_≡_};
 ghost use mathlib.Core.List.{List·Memᴰ};
 ghost use Prim.Native.Nat.{ℕ, _<_, _≤_};
@@ -6,7 +8,7 @@ ghost use lib.ListN.{length};
 ghost use Rattle.laws.specs.Rising.{Rising};
 ghost use Rattle.format.specs.Decode.{sizes};
 ghost use Rattle.draft_pairs.specs.Pairs.{mostPairs, pair, setIn};
-ghost use Rattle.draft_row.specs.Rows.{rowValue};
+ghost use Rattle.draft_pairs.specs.Rows.{rowValue};
 ghost use Rattle.draft_table.specs.Tables.{keys};
 ghost use Rattle.draft_plain.specs.Places.{procedureAt};
 ghost use Rattle.draft_plain.specs.Places as places;
@@ -14,9 +16,9 @@ ghost use Rattle.draft_plain.specs.Led.{Led};
 ghost use Rattle.draft_format.specs.DraftFile.{decodeDraft};
 ghost use Rattle.draft_format.specs.Translatable.{Translatable};
 ghost use Rattle.draft_copying.specs.Copied.{CopiedTo, PlacesIn};
-use draft_row::Row;
+use crate::targets::References;
+use draft_pairs::Row;
 use draft_table::Table;
-use draft_targets::References;
 
 // Copies all that the start of a draft leads to, and says how many pairs there are.
 pub fn copy_draft(draft: &[u8], agents: usize, table: &mut Table) -> usize
@@ -25,7 +27,7 @@ pub fn copy_draft(draft: &[u8], agents: usize, table: &mut Table) -> usize
     requires { ⌜ length (now table) ≡ mostPairs ⌝ }
     ensures { λ r. ⌜ PlacesIn (decodeDraft (now (draft .entry))) r (now (table .exit)) ⌝ }
 {
-    copy_procedure(draft, agents, 0, draft_row::row_of(0), table, 0)
+    copy_procedure(draft, agents, 0, draft_pairs::row_of(0), table, 0)
 }
 
 // Copies a procedure under a set, and all that it leads to, and says how many pairs there then are.
@@ -47,7 +49,7 @@ fn copy_procedure(
     requires { ⌜ ((k : ℕ) → List·Memᴰ k (keys count (now table)) → Led (decodeDraft (now draft)) k) ⌝ }
     ensures { λ r. ⌜ CopiedTo (decodeDraft (now (draft .entry))) (pair (procedureAt procedure) (setIn (rowValue under))) count (now (table .entry)) r (now (table .exit)) ⌝ }
 {
-    let row = draft_row::renumbered(under, draft_table::PROCEDURES + procedure);
+    let row = draft_pairs::renumbered(under, draft_table::PROCEDURES + procedure);
     let pairs = draft_table::enter(table, count, row);
     if pairs == count {
         return count;
@@ -78,7 +80,7 @@ fn copy_agent(
     requires { ⌜ ((k : ℕ) → List·Memᴰ k (keys count (now table)) → Led (decodeDraft (now draft)) k) ⌝ }
     ensures { λ r. ⌜ CopiedTo (decodeDraft (now (draft .entry))) (places.target (decodeDraft (now (draft .entry))) reference (setIn (rowValue under))) count (now (table .entry)) r (now (table .exit)) ⌝ }
 {
-    let row = draft_targets::target(draft, reference, under);
+    let row = targets::target(draft, reference, under);
     let entered = draft_table::enter(table, count, row);
     if entered == count {
         return count;
@@ -86,7 +88,7 @@ fn copy_agent(
     if draft_table::MOST < entered {
         return entered;
     }
-    match draft_targets::references_of(draft_format::written_at(draft, draft_row::number_of(row))) {
+    match targets::references_of(draft_format::draft_agent_at(draft, draft_pairs::number_of(row))) {
         References::Nothing => entered,
         References::Body(body) => copy_agent(draft, agents, body, row, table, entered),
         References::Halves(first, second) => {

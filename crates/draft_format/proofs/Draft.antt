@@ -35,10 +35,10 @@ use Rattle.check_faults.specs.Faults.{wordVerdict}
 use Rattle.check_faults.proofs.Accepted.{word-accepted}
 use Rattle.check_score.specs.Check.{verdict}
 use Rattle.check_score.proofs.Lawful.{accepted-words, accepted-faultless, accepted-lawful}
-use Rattle.draft_language.specs.Draft.{writtenAt, asWhen, whens, LawfulDraft}
-use Rattle.draft_language.specs.declared.Written.the-variants.{Plain, Watch}
+use Rattle.draft_language.specs.Draft.{draftAgentAt, asWhen, whens, LawfulDraft}
+use Rattle.draft_language.specs.declared.DraftAgent.the-variants.{Plain, Watch}
 use Rattle.draft_language.proofs.Whens.{when-at, whens-many}
-use Rattle.draft_format.specs.DraftFile.{whenByte, asWhens, draftVerdict, writtenOf, decodeDraft}
+use Rattle.draft_format.specs.DraftFile.{whenByte, asWhens, draftVerdict, draftAgentOf, decodeDraft}
 use Rattle.draft_format.proofs.AsWhens.{byte-kept, byte-less, as-whens-length, as-whens-at}
 use Rattle.draft_format.proofs.WhenWord.{whenWord, plain-written, joined-kind, joined-kept, joined-less, zero-kept, watch-malformed, written-read}
 
@@ -118,18 +118,18 @@ module _ (s : List ℕ) where
         (λ g. let past : wordAt s k ≡ 0 = List·getD-eq-default (words s) 0 (omega arith) in past-kept k (omega arith) ∙ past ∙ zero-kept ∙ ap whenWord (sym past))
 
 -- the decoded draft
-written-zero : writtenOf 0 ≡ Plain Skip
+written-zero : draftAgentOf 0 ≡ Plain Skip
 unfolding field decodeAgent
 written-zero = refl
 
 module _ (s : List ℕ) where
-  pub draft-agent : (i : ℕ) → i < sizes s .agents → writtenAt (decodeDraft s) i ≡ writtenOf (wordAt s (2 + i))
+  pub draft-agent : (i : ℕ) → i < sizes s .agents → draftAgentAt (decodeDraft s) i ≡ draftAgentOf (wordAt s (2 + i))
   unfolding decodeDraft
   draft-agent i h =
       let part = take (sizes s .agents) (drop 2 (words s)) in
-      ap (λ d. getD (map writtenOf part) i d) (sym written-zero)
-      ∙ List·getD-map writtenOf part i 0
-      ∙ ap writtenOf (getD-take (sizes s .agents) (drop 2 (words s)) i 0 h ∙ getD-drop 2 (words s) i 0)
+      ap (λ d. getD (map draftAgentOf part) i d) (sym written-zero)
+      ∙ List·getD-map draftAgentOf part i 0
+      ∙ ap draftAgentOf (getD-take (sizes s .agents) (drop 2 (words s)) i 0 h ∙ getD-drop 2 (words s) i 0)
 
   draft-agents : 2 + sizes s .agents ≤ length (words s) → length (decodeDraft s .agents) ≡ sizes s .agents
   unfolding decodeDraft
@@ -163,16 +163,16 @@ module _ (s : List ℕ) (e : verdict s ≡ Accepted) where
   no-watch-kind : (i : ℕ) → i < sizes s .agents → kind (wordAt s (2 + i)) ≡ 15 → ⊥
   no-watch-kind i lt is = agent-whole i lt (watch-malformed (wordAt s (2 + i)) is)
 
-  here-plain : (i : ℕ) → i < sizes s .agents → writtenAt (decodeDraft s) i ≡ Plain (agentAt (decode s) i)
+  here-plain : (i : ℕ) → i < sizes s .agents → draftAgentAt (decodeDraft s) i ≡ Plain (agentAt (decode s) i)
   here-plain i lt = draft-agent s i lt ∙ sym (ap Plain (decode-agent s i lt) ∙ plain-written (wordAt s (2 + i)) (no-watch-kind i lt))
 
-  past-plain : (i : ℕ) → sizes s .agents ≤ i → writtenAt (decodeDraft s) i ≡ Plain (agentAt (decode s) i)
+  past-plain : (i : ℕ) → sizes s .agents ≤ i → draftAgentAt (decodeDraft s) i ≡ Plain (agentAt (decode s) i)
   past-plain i le =
       let enough = accepted-faultless s e .enough in
       List·getD-eq-default (decodeDraft s .agents) (Plain Skip) (omega (arith, draft-agents s (omega arith)))
       ∙ ap Plain (sym (List·getD-eq-default (decode s .agents) Skip (omega (arith, decode-agents s (omega arith)))))
 
-  pub plain-agent : (i : ℕ) → writtenAt (decodeDraft s) i ≡ Plain (agentAt (decode s) i)
+  pub plain-agent : (i : ℕ) → draftAgentAt (decodeDraft s) i ≡ Plain (agentAt (decode s) i)
   plain-agent i = by-cases (decLt i (sizes s .agents)) (here-plain i) (λ g. past-plain i (omega arith))
 
 pub record WholeDraft (s : List ℕ) : Type 0 where
@@ -237,7 +237,7 @@ pub record PlainDraft (s : List ℕ) : Type 0 where
   pub unchanged : asWhens s ≡ s
   pub accepted : draftVerdict s ≡ Accepted
   pub decoded : whens (decodeDraft s) ≡ decode s
-  pub no-watch : (i t b : ℕ) → writtenAt (decodeDraft s) i ≡ Watch t b → ⊥
+  pub no-watch : (i t b : ℕ) → draftAgentAt (decodeDraft s) i ≡ Watch t b → ⊥
 
 module _ (s : List ℕ) (bytes : Within (λ b. b < 256) s) (e : verdict s ≡ Accepted) where
   low-top : (n : ℕ) → n < length s → n % 4 ≡ 3 → 8 ≤ n → n < 8 + 4 * sizes s .agents → 240 ≤ getD s n 0 → ⊥

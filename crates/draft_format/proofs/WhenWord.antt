@@ -22,14 +22,14 @@ use Rattle.words.specs.Word.{joined, field, kind}
 use Rattle.format.specs.declared.Decoded.the-variants.{Whole, Malformed}
 use Rattle.format.specs.Format.{clear, formed, decodeAgent, agentIn, agentOf}
 use Rattle.draft_language.specs.Draft.{asWhen}
-use Rattle.draft_language.specs.declared.Written.the-variants.{Plain, Watch}
-use Rattle.draft_format.specs.DraftFile.{writtenOf}
+use Rattle.draft_language.specs.declared.DraftAgent.the-variants.{Plain, Watch}
+use Rattle.draft_format.specs.DraftFile.{draftAgentOf}
 
 abbrev pub whenWord : ℕ → ℕ
 whenWord w = cond (eqb (kind w) 15) (w - 2 ^ 31) w
 
 module _ (w : ℕ) (is : kind w ≡ 15) where
-  pub watch-written : Watch (field w 10 8) (field w 0 10) ≡ writtenOf w
+  pub watch-written : Watch (field w 10 8) (field w 0 10) ≡ draftAgentOf w
   watch-written = cond-true (Plain (agentOf w)) (eq-eqb (kind w) 15 is) refl
 
   pub watch-malformed : decodeAgent w ≡ Malformed
@@ -52,7 +52,7 @@ module _ (w : ℕ) (is : kind w ≡ 15) where
   when-body = omega arith
 
 module _ (w : ℕ) (is-not : kind w ≡ 15 → ⊥) where
-  pub plain-written : Plain (agentOf w) ≡ writtenOf w
+  pub plain-written : Plain (agentOf w) ≡ draftAgentOf w
   plain-written = cond-false (Watch (field w 10 8) (field w 0 10)) (ne-eqb (kind w) 15 is-not) refl
 
   word-kept : w ≡ whenWord w
@@ -90,7 +90,7 @@ when-read w is whole =
     let d = when-decoded v (when-kind w is) in
     sym (ap agentIn d ∙ formed-whole v 18 (When (field v 10 8) (field v 0 10)) (λ m. whole (d ∙ m)) ∙ ap₂ When (when-token w is) (when-body w is))
 
-pub written-read : (w : ℕ) → (decodeAgent (whenWord w) ≡ Malformed → ⊥) → asWhen (writtenOf w) ≡ agentOf (whenWord w)
+pub written-read : (w : ℕ) → (decodeAgent (whenWord w) ≡ Malformed → ⊥) → asWhen (draftAgentOf w) ≡ agentOf (whenWord w)
 written-read w whole = by-cases (ℕ-discrete (kind w) 15)
     (λ is. ap asWhen (sym (watch-written w is)) ∙ when-read w is (λ m. whole (ap decodeAgent (sym (word-less w is)) ∙ m)) ∙ ap agentOf (word-less w is))
     (λ is-not. ap asWhen (sym (plain-written w is-not)) ∙ ap agentOf (word-kept w is-not))

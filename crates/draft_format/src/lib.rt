@@ -6,10 +6,10 @@ ghost use Rattle.tcc.specs.Limits.{mostAgents};
 ghost use Rattle.words.specs.Word.{words};
 ghost use Rattle.format.specs.Decode.{sizes};
 ghost use Rattle.check_score.specs.Check.{verdict};
-ghost use Rattle.draft_language.specs.Draft.{writtenAt};
-ghost use Rattle.draft_format.specs.DraftFile.{whenByte, asWhens, draftVerdict, writtenOf, decodeDraft};
+ghost use Rattle.draft_language.specs.Draft.{draftAgentAt};
+ghost use Rattle.draft_format.specs.DraftFile.{whenByte, asWhens, draftVerdict, draftAgentOf, decodeDraft};
 use check_verdicts::Verdict;
-use draft_language::Written;
+use draft_language::DraftAgent;
 use format::Decoded;
 use tcc::Agent;
 
@@ -73,23 +73,23 @@ fn check_part(bytes: &[u8], count: usize) -> Verdict
 }
 
 // An agent word of a draft.
-pub fn written_of(w: u32) -> Written
-    ensures { λ r. ⌜ r ≡ writtenOf w ⌝ }
+pub fn draft_agent_of(w: u32) -> DraftAgent
+    ensures { λ r. ⌜ r ≡ draftAgentOf w ⌝ }
 {
     if words::bits(w, 28, 4) == 15 {
-        return Written::Watch(format::number(w, 10, 8), format::number(w, 0, 10));
+        return DraftAgent::Watch(format::number(w, 10, 8), format::number(w, 0, 10));
     }
     match format::decode_agent(w) {
-        Decoded::Whole(agent) => Written::Plain(agent),
-        Decoded::Malformed => Written::Plain(Agent::Skip),
+        Decoded::Whole(agent) => DraftAgent::Plain(agent),
+        Decoded::Malformed => DraftAgent::Plain(Agent::Skip),
     }
 }
 
 // Agent i of a draft whose words are all there.
-pub fn written_at(draft: &[u8], i: usize) -> Written
+pub fn draft_agent_at(draft: &[u8], i: usize) -> DraftAgent
     requires { ⌜ 2 + i < length (words (now draft)) ⌝ }
     requires { ⌜ i < sizes (now draft) .agents ⌝ }
-    ensures { λ r. ⌜ r ≡ writtenAt (decodeDraft (now (draft .entry))) i ⌝ }
+    ensures { λ r. ⌜ r ≡ draftAgentAt (decodeDraft (now (draft .entry))) i ⌝ }
 {
-    written_of(words::word_at(draft, 2 + i))
+    draft_agent_of(words::word_at(draft, 2 + i))
 }

@@ -23,7 +23,7 @@ use Rattle.laws.proofs.Sets.{keep-agrees}
 use Rattle.draft_language.specs.Draft.{Draft}
 use Rattle.draft_pairs.specs.Pairs.{pair, numberIn}
 use Rattle.draft_pairs.proofs.TokenSets.{number-pair, pair-before}
-use Rattle.draft_row.specs.Rows.{rowValue}
+use Rattle.draft_pairs.specs.Rows.{rowValue}
 use Rattle.draft_table.specs.Tables.{keys, Placed}
 use Rattle.draft_table.proofs.Tables.{placed-keep, keys-length}
 use Rattle.draft_plain.specs.Places.{places, agentPlaces, procedurePlaces}

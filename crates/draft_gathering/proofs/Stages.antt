@@ -28,8 +28,8 @@ use Rattle.draft_format.specs.Translatable.{Translatable}
 use Rattle.draft_format.proofs.Draft.{accepted-whole, accepted-lawful-draft}
 use Rattle.check_verdicts.specs.declared.Verdict.the-variants.{Accepted}
 use Rattle.draft_copying.specs.Copied.{PlacesIn}
-use Rattle.draft_asked.specs.Asking.{TokensBelow}
-use Rattle.draft_counts.specs.Gathered.{agentsIn, setsIn, Gathered}
+use Rattle.draft_gathering.specs.Asking.{TokensBelow}
+use Rattle.draft_gathering.specs.Gathered.{agentsIn, setsIn, Gathered}
 use Rattle.draft_gathering.specs.Gathering.{PairsFit}
 use Rattle.draft_gathering.proofs.Limits.{Parted, few-fits, many-misfit}
 

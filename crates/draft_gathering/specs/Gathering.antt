@@ -15,7 +15,7 @@ use Rattle.draft_plain.specs.Places.{places}
 use Rattle.draft_plain.specs.Plain.{plainOf, fits}
 use Rattle.draft_format.specs.DraftFile.{decodeDraft, draftVerdict}
 use Rattle.check_verdicts.specs.declared.Verdict.the-variants.{Accepted}
-use Rattle.draft_counts.specs.Gathered.{agentsIn, proceduresIn, Gathered}
+use Rattle.draft_gathering.specs.Gathered.{agentsIn, proceduresIn, Gathered}
 use Rattle.draft_gathering.specs.declared.Gathering.{Gathering}
 use Rattle.draft_gathering.specs.declared.Gathering.the-variants.{Large, Fits}
 

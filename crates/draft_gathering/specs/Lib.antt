@@ -1,1 +1,3 @@
+pub mod Asking
+pub mod Gathered
 pub mod Gathering

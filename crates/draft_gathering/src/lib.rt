@@ -1,13 +1,25 @@
-// The pairs and the asked sets of a draft, gathered in two tables.
+// The pairs and the asked sets (`asked`) of a draft, gathered in two tables.
+pub mod asked;
+
 ghost use mathlib.Core.Path.{_≡_};
 ghost use lib.ListN.{length};
 ghost use Rattle.check_verdicts.specs.declared.Verdict.the-variants.{Accepted};
 ghost use Rattle.draft_pairs.specs.Pairs.{mostPairs};
 ghost use Rattle.draft_format.specs.DraftFile.{draftVerdict};
 ghost use Rattle.draft_gathering.specs.Gathering.{PairsFit, GatheredBy};
-use draft_counts::Counts;
 use draft_table::Table;
 use format::Sizes;
+
+// How many there are: the draft's tokens, agents, procedures and words; its pairs, of them copied agents; its asked sets.
+pub struct Counts {
+    pub tokens: usize,
+    pub agents: usize,
+    pub procedures: usize,
+    pub words: usize,
+    pub pairs: usize,
+    pub copied: usize,
+    pub sets: usize,
+}
 
 // What is gathered of a draft.
 pub enum Gathering {
@@ -29,7 +41,7 @@ pub fn gather(draft: &[u8], table: &mut Table, sets: &mut Table) -> Gathering
     if draft_table::MOST < pairs {
         return Gathering::Large;
     }
-    let copied = draft_table::place(table, pairs, draft_row::row_of(draft_table::PROCEDURES));
+    let copied = draft_table::place(table, pairs, draft_pairs::row_of(draft_table::PROCEDURES));
     if tcc::MOST_AGENTS < copied {
         return Gathering::Large;
     }
@@ -52,13 +64,13 @@ fn gather_sets(
     requires { ⌜ length (now sets) ≡ mostPairs ⌝ }
     ensures { λ r. ⌜ GatheredBy (now (draft .entry)) (now (table .entry)) (now (sets .exit)) r ⌝ }
 {
-    let count = draft_asked::enter_asked(draft, head.tokens, table, copied, sets);
+    let count = asked::enter_asked(draft, head.tokens, table, copied, sets);
     if tcc::MOST_TOKENS < head.tokens + count {
         return Gathering::Large;
     }
     let words = words::word_count(draft);
     let rules = words - (2 + head.agents + head.procedures);
-    if tcc::MOST_RULES < rules + draft_asked::member_count(sets, count, head.tokens) {
+    if tcc::MOST_RULES < rules + asked::member_count(sets, count, head.tokens) {
         return Gathering::Large;
     }
     Gathering::Fits(Counts {

@@ -12,10 +12,10 @@ use native.Mathlib.Omega.{arith}
 use lib.ListN.{length}
 use Rattle.laws.proofs.Sets.{Within}
 use Rattle.tcc.specs.Score.{partsOf}
-use Rattle.draft_language.specs.Draft.{Draft, writtenAt, asWhen, LawfulDraft}
+use Rattle.draft_language.specs.Draft.{Draft, draftAgentAt, asWhen, LawfulDraft}
 use Rattle.draft_language.specs.Order.{Copy, Item, copy, input, Pick, Step, skip, tell, input-tell, parallel, call, when, unless, watch, left, Order, stop, step, awakeNext, start}
 use Rattle.draft_language.specs.WeightBound.{ItemsBelow, CopiesBelow}
-use Rattle.draft_language.specs.declared.Written.{Written}
+use Rattle.draft_language.specs.declared.DraftAgent.{DraftAgent}
 use Rattle.draft_language.proofs.Whens.{part-known, root-known}
 use Rattle.draft_language.proofs.Steps.{pick-member, pick-left}
 use Rattle.draft_language.proofs.Awake.{Wakes, by-next, by-unless, on-awake}
@@ -40,7 +40,7 @@ module _ (d : Draft) (law : LawfulDraft d) where
   rest-below : {x : Item} {l k : List Item} → Pick x l k → ItemsBelow d l → ItemsBelow d k
   rest-below p below i set m = below i set (pick-left p (copy i set) m)
 
-  parts-below : {i : ℕ} {set : List ℕ} {l k : List Item} {x : Written} → Pick (copy i set) l k → writtenAt d i ≡ x → ItemsBelow d l → Within (λ b. b < length (d .agents)) (partsOf (asWhen x))
+  parts-below : {i : ℕ} {set : List ℕ} {l k : List Item} {x : DraftAgent} → Pick (copy i set) l k → draftAgentAt d i ≡ x → ItemsBelow d l → Within (λ b. b < length (d .agents)) (partsOf (asWhen x))
   parts-below {i} {set} p e below = part-known d law i (below i set (pick-member p)) e
 
   pub step-below : {x : Item} {l k : List Item} {s s′ : List ℕ} → Step d x l s k s′ → ItemsBelow d l → ItemsBelow d k
@@ -57,7 +57,7 @@ module _ (d : Draft) (law : LawfulDraft d) where
   order-below stop below = below
   order-below (step st o) below = order-below o (step-below st below)
 
-  woken-below : (i : ℕ) → i < length (d .agents) → (b : ℕ) → Wakes (writtenAt d i) b → b < length (d .agents)
+  woken-below : (i : ℕ) → i < length (d .agents) → (b : ℕ) → Wakes (draftAgentAt d i) b → b < length (d .agents)
   woken-below i known b (by-next e) = part-known d law i known e b (List·Memᴰ·head refl)
   woken-below i known b (by-unless e) = part-known d law i known e b (List·Memᴰ·head refl)
 

@@ -25,7 +25,7 @@ use Rattle.tcc.proofs.Output.{ports-between, output-none, output-agrees}
 use Rattle.journal_words.specs.History.{instantWords, entry, history}
 use Rattle.draft_language.specs.Draft.{Draft, whens}
 use Rattle.draft_language.specs.Order.{Copy, Item, copy, input, End, aborted, left, start}
-use Rattle.draft_language.specs.Chain.{InputsKnown, Chain, none, then, aborts, statusOf, shownAt, shown}
+use Rattle.draft_language.specs.Chain.{InputsKnown, Chain, none, then, aborts, storeStatus, shownAt, shown}
 use Rattle.draft_language.proofs.Carries.{Extends, Carries, OkEnds, StandingAll, placesOf, CarriedOver}
 use Rattle.draft_language.proofs.Matching.{matches-start}
 use Rattle.draft_language.proofs.Stores.{start-extends}
@@ -53,7 +53,7 @@ module _ {d : Draft} {sc : Score} {Member : ℕ → ℕ → Type 0} {Ok : List �
         output-agrees (whens d) sc (sym (carries .same-lowest)) (sym (carries .same-highest)) status s store
         (λ t m. old-has t (omega (arith, ports-between (whens d) t m .1, carries .lawful .ports-known)) ∙ has-same t same)
 
-    status-carried : {k : List plain.Item} {a : Answer} → QuietAs sc k p a → statusOf s ≡ a .status
+    status-carried : {k : List plain.Item} {a : Answer} → QuietAs sc k p a → storeStatus s ≡ a .status
     status-carried {a = a} q = by-test (λ n. n ≡ a .status) (has 0 s)
         (λ e. sym (q .clash (extends .old 0 (has-member 0 s e))))
         (λ e. sym (q .no-clash (λ m. true-is-false (member-has (extends .back 0 (carries .lawful .some-tokens) m)) e)))

@@ -20,11 +20,11 @@ use Rattle.tcc.specs.Instant.{running}
 use Rattle.tcc.specs.declared.Agent.{Agent}
 use Rattle.tcc.specs.declared.Agent.the-variants.{Skip, Abort, Tell, Parallel, When, Next, Unless, Call}
 use Rattle.journal_words.specs.History.{history}
-use Rattle.draft_language.specs.Draft.{Draft, writtenAt, rootOf, LawfulDraft}
+use Rattle.draft_language.specs.Draft.{Draft, draftAgentAt, rootOf, LawfulDraft}
 use Rattle.draft_language.specs.Order.{Copy, End, aborted, left}
 use Rattle.draft_language.specs.Chain.{InputsKnown, Chain, shown}
-use Rattle.draft_language.specs.declared.Written.{Written}
-use Rattle.draft_language.specs.declared.Written.the-variants.{Plain, Watch}
+use Rattle.draft_language.specs.declared.DraftAgent.{DraftAgent}
+use Rattle.draft_language.specs.declared.DraftAgent.the-variants.{Plain, Watch}
 
 -- `Member u m`: the new token u has the member m
 pub record Extends (d : Draft) (Member : ℕ → ℕ → Type 0) (s p : List ℕ) : Type 0 where
@@ -62,7 +62,7 @@ module _ (d : Draft) (sc : Score) (Member : ℕ → ℕ → Type 0) (Ok : List �
   AgentCarried i set (Unless t b) = (u : ℕ) × (agentAt sc (place i set) ≡ Unless u (place b set)) × ((s p : List ℕ) → Extends d Member s p → List·Memᴰ t s → List·Memᴰ u p) × Asks u (t ∷ set) × Standing b set
   AgentCarried i set (Call p) = (q : ℕ) × (agentAt sc (place i set) ≡ Call q) × (plain.rootOf sc q ≡ place (rootOf d p) set) × Standing (rootOf d p) set
 
-  abbrev pub Carried : ℕ → List ℕ → Written → Type 0
+  abbrev pub Carried : ℕ → List ℕ → DraftAgent → Type 0
   Carried i set (Plain a) = AgentCarried i set a
   Carried i set (Watch t b) = (place i set ≡ place b (t ∷ set)) × Standing b (t ∷ set)
 
@@ -77,7 +77,7 @@ module _ (d : Draft) (sc : Score) (Member : ℕ → ℕ → Type 0) (Ok : List �
     pub members-old : (u m : ℕ) → Member u m → m < d .tokens
     pub members-new : (u m : ℕ) → Member u m → d .tokens ≤ u
     pub some-member : (u : ℕ) → d .tokens ≤ u → u < sc .tokens → (m : ℕ) × Member u m
-    pub carried : (i : ℕ) (set : List ℕ) → Standing i set → Carried i set (writtenAt d i)
+    pub carried : (i : ℕ) (set : List ℕ) → Standing i set → Carried i set (draftAgentAt d i)
 
   abbrev pub OkEnd : End → Type 0
   OkEnd aborted = Unit {0}

@@ -20,13 +20,13 @@ use Rattle.tcc.specs.declared.Agent.{Agent}
 use Rattle.tcc.specs.declared.Agent.the-variants.{Skip, Abort, Tell, Parallel, When, Next, Unless, Call}
 use Rattle.tcc.proofs.Order.{agentsIn}
 use Rattle.tcc.proofs.Moves.{stuck-quiet}
-use Rattle.draft_language.specs.Draft.{Draft, writtenAt}
+use Rattle.draft_language.specs.Draft.{Draft, draftAgentAt}
 use Rattle.draft_language.specs.Order.{Copy, Item, copy, input, Quiet, watched, wakes, awakeNext}
-use Rattle.draft_language.specs.declared.Written.{Written}
-use Rattle.draft_language.specs.declared.Written.the-variants.{Plain, Watch}
+use Rattle.draft_language.specs.declared.DraftAgent.{DraftAgent}
+use Rattle.draft_language.specs.declared.DraftAgent.the-variants.{Plain, Watch}
 use Rattle.draft_language.proofs.Carries.{Extends, Asks, NextCarried, Carries, StandingAll, placesOf}
 use Rattle.draft_language.proofs.Whens.{token-known}
-use Rattle.draft_language.proofs.Steps.{WrittenStuck, quiet-items}
+use Rattle.draft_language.proofs.Steps.{DraftStuck, quiet-items}
 use Rattle.draft_language.proofs.Awake.{watched-some, some-watched, none-watched, Wakes, by-next, by-unless, on-awake}
 use Rattle.draft_language.proofs.Matching.{carry, matches-within, matches-same}
 use Rattle.draft_language.proofs.Orders.{ItemStands, Leads, does}
@@ -60,7 +60,7 @@ module _ {d : Draft} {sc : Score} {Member : ℕ → ℕ → Type 0} {Ok : List �
     next-rests i set b (inl x) = rw (x .0, none-watched (x .1 s ok)) (inl tt, refl)
     next-rests i set b (inr x) = rw (x .1) (unless-rests (x .0) b (watched-same (x .0) set (x .2)))
 
-    rests : (i : ℕ) (set : List ℕ) (w : Written) → Standing i set → writtenAt d i ≡ w → WrittenStuck s w → Rests set (wakes set w) (agentAt sc (place i set))
+    rests : (i : ℕ) (set : List ℕ) (w : DraftAgent) → Standing i set → draftAgentAt d i ≡ w → DraftStuck s w → Rests set (wakes set w) (agentAt sc (place i set))
     rests i set (Plain Skip) stands e stays = absurd stays
     rests i set (Plain Abort) stands e stays = absurd stays
     rests i set (Plain (Tell t)) stands e stays = absurd stays
@@ -75,11 +75,11 @@ module _ {d : Draft} {sc : Score} {Member : ℕ → ℕ → Type 0} {Ok : List �
     rests i set (Watch t b) stands e stays = absurd stays
 
     abbrev ItemRests : Item → Type 0
-    ItemRests (copy i set) = Rests set (wakes set (writtenAt d i)) (agentAt sc (place i set))
+    ItemRests (copy i set) = Rests set (wakes set (draftAgentAt d i)) (agentAt sc (place i set))
     ItemRests (input t) = ⊥
 
     items-rest : {l : List Item} → Quiet d l s → Within (ItemStands carries) l → Within ItemRests l
-    items-rest quiet stands (copy i set) m = rests i set (writtenAt d i) (stands (copy i set) m) refl (quiet-items d s quiet (copy i set) m)
+    items-rest quiet stands (copy i set) m = rests i set (draftAgentAt d i) (stands (copy i set) m) refl (quiet-items d s quiet (copy i set) m)
     items-rest quiet stands (input t) m = quiet-items d s quiet (input t) m
 
     rest-still : (x : Item) → ItemRests x → ItemStill sc p (carry place x)
@@ -89,11 +89,11 @@ module _ {d : Draft} {sc : Score} {Member : ℕ → ℕ → Type 0} {Ok : List �
     awake-places : (l : List Item) → Within ItemRests l → placesOf place (awakeNext d s l) ≡ leftAwake sc p (agentsIn (map (carry place) l))
     awake-places [] h = refl
     awake-places (copy i set ∷ l) h =
-        map-append _ (cond (watched s set) [] (wakes set (writtenAt d i))) (awakeNext d s l)
+        map-append _ (cond (watched s set) [] (wakes set (draftAgentAt d i))) (awakeNext d s l)
         ∙ ap₂ _++_ (sym (h (copy i set) (List·Memᴰ·head refl) .1)) (awake-places l (λ x m. h x (List·Memᴰ·tail m)))
     awake-places (input t ∷ l) h = awake-places l (λ x m. h x (List·Memᴰ·tail m))
 
-  woken-stands : (i : ℕ) (set : List ℕ) → Standing i set → (b : ℕ) → Wakes (writtenAt d i) b → Standing b set
+  woken-stands : (i : ℕ) (set : List ℕ) → Standing i set → (b : ℕ) → Wakes (draftAgentAt d i) b → Standing b set
   woken-stands i set stands b (by-next e) = does carries i set stands e .1
   woken-stands i set stands b (by-unless e) = does carries i set stands e .4
 

@@ -14,9 +14,9 @@ use Rattle.tcc.specs.Score.{Score}
 use Rattle.tcc.specs.Store.{Closes, closure}
 use Rattle.tcc.specs.Order as plain
 use Rattle.tcc.proofs.Store.{closure-exact}
-use Rattle.draft_language.specs.Draft.{Draft, writtenAt, whens}
+use Rattle.draft_language.specs.Draft.{Draft, draftAgentAt, whens}
 use Rattle.draft_language.specs.Order.{Item, copy, input, Pick, Step, skip, tell, input-tell, parallel, call, when, unless, watch, End, aborted, left, Order, stop, step, abort}
-use Rattle.draft_language.specs.declared.Written.{Written}
+use Rattle.draft_language.specs.declared.DraftAgent.{DraftAgent}
 use Rattle.draft_language.proofs.Carries.{Extends, Carried, Carries}
 use Rattle.draft_language.proofs.Whens.{token-known}
 use Rattle.draft_language.proofs.Steps.{pick-member, pick-left}
@@ -39,7 +39,7 @@ module _ {d : Draft} {sc : Score} {Member : ℕ → ℕ → Type 0} {Ok : List �
     pub beside : Beside l s items store
     pub goes : {more : List plain.Item} {e : plain.End} → plain.Order sc items store more e → (steps : List plain.Item) × plain.Order sc from p steps e
 
-  pub does : (i : ℕ) (set : List ℕ) {w : Written} → Standing i set → writtenAt d i ≡ w → Carried d sc Member Ok Standing place i set w
+  pub does : (i : ℕ) (set : List ℕ) {w : DraftAgent} → Standing i set → draftAgentAt d i ≡ w → Carried d sc Member Ok Standing place i set w
   does i set stands e = subst (Carried d sc Member Ok Standing place i set) e (carries .carried i set stands)
 
   picked : {x : Item} {l k : List Item} {l′ : List plain.Item} {s p : List ℕ} → Pick x l k → Beside l s l′ p → (k′ : List plain.Item) × plain.Pick (carry place x) l′ k′ × ItemStands x × Beside k s k′ p

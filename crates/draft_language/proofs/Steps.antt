@@ -2,7 +2,7 @@
 --     pick-member, pick-left, member-pick     the copy picked and the copies left are the multiset
 --     pick-summed                  a picked copy's number is part of the sum
 --     step-picks                   a step reduces a copy of the multiset
---     WrittenStuck, ItemStuck      no reduction applies to an agent as written, to a copy, the store being what it is
+--     DraftStuck, ItemStuck        no reduction applies to an agent as written, to a copy, the store being what it is
 --     Moves                        a multiset has a step, or an abort
 --     token-moves, written-moves, copy-moves     a multiset moves, or a copy in it is stuck
 --     moves-or-stuck-in, moves-or-stuck          a multiset moves, or all its copies are stuck
@@ -20,10 +20,10 @@ use Rattle.tcc.specs.declared.Agent.the-variants.{Skip, Abort, Tell, Parallel, 
 use Rattle.tcc.proofs.Multiset.{summed}
 use Rattle.tcc.proofs.Order.{Stuck}
 use Rattle.tcc.proofs.Store.{closure-exact}
-use Rattle.draft_language.specs.Draft.{Draft, writtenAt, whens}
+use Rattle.draft_language.specs.Draft.{Draft, draftAgentAt, whens}
 use Rattle.draft_language.specs.Order.{Item, copy, input, Pick, here, there, Step, skip, tell, input-tell, parallel, call, when, unless, watch, Quiet}
-use Rattle.draft_language.specs.declared.Written.{Written}
-use Rattle.draft_language.specs.declared.Written.the-variants.{Plain, Watch}
+use Rattle.draft_language.specs.declared.DraftAgent.{DraftAgent}
+use Rattle.draft_language.specs.declared.DraftAgent.the-variants.{Plain, Watch}
 
 pub pick-member : {x : Item} {l k : List Item} → Pick x l k → List·Memᴰ x l
 pick-member here = List·Memᴰ·head refl
@@ -51,17 +51,17 @@ step-picks (when p e m) = pick-member p
 step-picks (unless p e m) = pick-member p
 step-picks (watch p e) = pick-member p
 
-abbrev pub WrittenStuck : List ℕ → Written → Type 0
-WrittenStuck s (Plain a) = Stuck s a
-WrittenStuck s (Watch t b) = ⊥
+abbrev pub DraftStuck : List ℕ → DraftAgent → Type 0
+DraftStuck s (Plain a) = Stuck s a
+DraftStuck s (Watch t b) = ⊥
 
 abbrev pub ItemStuck : Draft → List ℕ → Item → Type 0
-ItemStuck d s (copy i set) = WrittenStuck s (writtenAt d i)
+ItemStuck d s (copy i set) = DraftStuck s (draftAgentAt d i)
 ItemStuck d s (input t) = ⊥
 
 pub data Moves (d : Draft) (l : List Item) (s : List ℕ) : Type 0 where
   steps : {x : Item} {k : List Item} {s′ : List ℕ} → Step d x l s k s′ → Moves d l s
-  aborts : {i : ℕ} {set : List ℕ} {k : List Item} → Pick (copy i set) l k → writtenAt d i ≡ Plain Abort → Moves d l s
+  aborts : {i : ℕ} {set : List ℕ} {k : List Item} → Pick (copy i set) l k → draftAgentAt d i ≡ Plain Abort → Moves d l s
 
 module _ (d : Draft) (s : List ℕ) (l : List Item) where
   -- a copy that a token sets free
@@ -72,7 +72,7 @@ module _ (d : Draft) (s : List ℕ) (l : List Item) where
       go true e = inl (f (has-member t s e))
       go false e = inr (λ m. true-is-false (member-has m) e)
 
-  written-moves : (i : ℕ) (set : List ℕ) (x : Written) → writtenAt d i ≡ x → {k : List Item} → Pick (copy i set) l k → Moves d l s ⊎ WrittenStuck s x
+  written-moves : (i : ℕ) (set : List ℕ) (x : DraftAgent) → draftAgentAt d i ≡ x → {k : List Item} → Pick (copy i set) l k → Moves d l s ⊎ DraftStuck s x
   written-moves i set (Plain Skip) e p = inl (steps (skip p e))
   written-moves i set (Plain Abort) e p = inl (aborts p e)
   written-moves i set (Plain (Tell t)) e p = inl (steps (tell p e (closure-exact (whens d) _)))
@@ -84,7 +84,7 @@ module _ (d : Draft) (s : List ℕ) (l : List Item) where
   written-moves i set (Watch t b) e p = inl (steps (watch p e))
 
   copy-moves : (x : Item) → List·Memᴰ x l → Moves d l s ⊎ ItemStuck d s x
-  copy-moves (copy i set) m = written-moves i set (writtenAt d i) refl (member-pick m .1)
+  copy-moves (copy i set) m = written-moves i set (draftAgentAt d i) refl (member-pick m .1)
   copy-moves (input t) m = inl (steps (input-tell (member-pick m .1) (closure-exact (whens d) _)))
 
   moves-or-stuck-in : (part : List Item) → Among part l → Moves d l s ⊎ Within (ItemStuck d s) part
@@ -101,19 +101,19 @@ module _ (d : Draft) (s : List ℕ) (l : List Item) where
 
 module _ (d : Draft) (s : List ℕ) where
   stuck-step : {x : Item} {l k : List Item} {s′ : List ℕ} → Step d x l s k s′ → ItemStuck d s x → ⊥
-  stuck-step (skip p e) h = subst (WrittenStuck s) e h
-  stuck-step (tell p e c) h = subst (WrittenStuck s) e h
+  stuck-step (skip p e) h = subst (DraftStuck s) e h
+  stuck-step (tell p e c) h = subst (DraftStuck s) e h
   stuck-step (input-tell p c) h = h
-  stuck-step (parallel p e) h = subst (WrittenStuck s) e h
-  stuck-step (call p e) h = subst (WrittenStuck s) e h
-  stuck-step (when p e m) h = subst (WrittenStuck s) e h m
-  stuck-step (unless p e m) h = subst (WrittenStuck s) e h m
-  stuck-step (watch p e) h = subst (WrittenStuck s) e h
+  stuck-step (parallel p e) h = subst (DraftStuck s) e h
+  stuck-step (call p e) h = subst (DraftStuck s) e h
+  stuck-step (when p e m) h = subst (DraftStuck s) e h m
+  stuck-step (unless p e m) h = subst (DraftStuck s) e h m
+  stuck-step (watch p e) h = subst (DraftStuck s) e h
 
   pub stuck-quiet : {l : List Item} → Within (ItemStuck d s) l → Quiet d l s
   stuck-quiet all = record {
     no-step = λ x k s′ st. stuck-step st (all x (step-picks st));
-    no-abort = λ i set k p e. subst (WrittenStuck s) e (all _ (pick-member p));
+    no-abort = λ i set k p e. subst (DraftStuck s) e (all _ (pick-member p));
   }
 
   pub quiet-items : {l : List Item} → Quiet d l s → Within (ItemStuck d s) l

@@ -7,14 +7,14 @@ use mathlib.Core.Bool.{cond}
 use mathlib.Core.List.{List, [], _++_, List·Memᴰ}
 use Prim.Native.Nat.{ℕ}
 use Rattle.laws.proofs.Booleans.{true-is-false}
-use Rattle.draft_language.specs.Draft.{Draft, writtenAt}
+use Rattle.draft_language.specs.Draft.{Draft, draftAgentAt}
 use Rattle.draft_language.specs.Order.{Copy, Item, copy, input, Pick, here, there, watched, wakes, awakeNext}
 use Rattle.draft_language.specs.StoppedAct.{StoppedAct}
 use Rattle.draft_language.proofs.Awake.{some-watched, on-awake}
 
 stopped : (d : Draft) (s : List ℕ) {l k : List Item} (i : ℕ) (set : List ℕ) (t : ℕ) → Pick (copy i set) l k → List·Memᴰ t set → List·Memᴰ t s → awakeNext d s l ≡ awakeNext d s k
 stopped d s i set t here at held = rw (some-watched at held)
-stopped d s i set t (there {y = copy j under} p) at held = ap (λ woken. cond (watched s under) [] (wakes under (writtenAt d j)) ++ woken) (stopped d s i set t p at held)
+stopped d s i set t (there {y = copy j under} p) at held = ap (λ woken. cond (watched s under) [] (wakes under (draftAgentAt d j)) ++ woken) (stopped d s i set t p at held)
 stopped d s i set t (there {y = input u} p) at held = stopped d s i set t p at held
 
 awake-unwatched : (d : Draft) (s : List ℕ) (l : List Item) (c : Copy) → List·Memᴰ c (awakeNext d s l) → (t : ℕ) → List·Memᴰ t (c .under) → List·Memᴰ t s → ⊥

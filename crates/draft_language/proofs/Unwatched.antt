@@ -23,12 +23,12 @@ use Rattle.tcc.specs.Score as plain
 use Rattle.tcc.specs.declared.Agent.{Agent}
 use Rattle.tcc.specs.declared.Agent.the-variants.{Skip, Abort, Tell, Parallel, When, Next, Unless, Call}
 use Rattle.tcc.proofs.Multiset.{call-known}
-use Rattle.draft_language.specs.Draft.{Draft, writtenAt, rootOf, asWhen, whens, LawfulDraft}
+use Rattle.draft_language.specs.Draft.{Draft, draftAgentAt, rootOf, asWhen, whens, LawfulDraft}
 use Rattle.draft_language.specs.Order.{End, aborted, left}
 use Rattle.draft_language.specs.Chain.{startCopies}
 use Rattle.draft_language.specs.Unwatched.{bodyWithin, bodyOf, readOn, unwatched, WatchToken, NeverIn, Unwatched}
-use Rattle.draft_language.specs.declared.Written.{Written}
-use Rattle.draft_language.specs.declared.Written.the-variants.{Plain, Watch}
+use Rattle.draft_language.specs.declared.DraftAgent.{DraftAgent}
+use Rattle.draft_language.specs.declared.DraftAgent.the-variants.{Plain, Watch}
 use Rattle.draft_language.proofs.Carries.{Asks, AgentCarried, Carried, Carries, placesOf, OkEnds, StandingAll}
 use Rattle.draft_language.proofs.Whens.{when-is, token-known, body-lower}
 use Rattle.draft_language.proofs.Carried.{carried-over}
@@ -38,35 +38,35 @@ NoMember u m = ⊥
 
 module _ (d : Draft) where
   -- a turn of `bodyWithin`, over any agent in place of agent i
-  abbrev goesOn : ℕ → ℕ → Written → ℕ
+  abbrev goesOn : ℕ → ℕ → DraftAgent → ℕ
   goesOn n i w = elim w [ Plain a ↦ i | Watch t b ↦ bodyWithin d n b ]
 
-  within-plain : (n i : ℕ) {a : Agent} → writtenAt d i ≡ Plain a → bodyWithin d n i ≡ i
+  within-plain : (n i : ℕ) {a : Agent} → draftAgentAt d i ≡ Plain a → bodyWithin d n i ≡ i
   within-plain zero i e = refl
   within-plain (suc n) i e = ap (goesOn n i) e
 
-  within-watch : (n i : ℕ) {t b : ℕ} → writtenAt d i ≡ Watch t b → bodyWithin d (suc n) i ≡ bodyWithin d n b
+  within-watch : (n i : ℕ) {t b : ℕ} → draftAgentAt d i ≡ Watch t b → bodyWithin d (suc n) i ≡ bodyWithin d n b
   within-watch n i e = ap (goesOn n i) e
 
   module _ (law : LawfulDraft d) where
     within-same : (n m i : ℕ) → i < n → i < m → bodyWithin d n i ≡ bodyWithin d m i
     within-same zero m i h k = absurd (omega arith)
     within-same (suc n) zero i h k = absurd (omega arith)
-    within-same (suc n) (suc m) i h k = go (writtenAt d i) refl (λ b lt. within-same n m b (omega arith) (omega arith))
+    within-same (suc n) (suc m) i h k = go (draftAgentAt d i) refl (λ b lt. within-same n m b (omega arith) (omega arith))
       where
-        go : (w : Written) → writtenAt d i ≡ w → ((b : ℕ) → b < i → bodyWithin d n b ≡ bodyWithin d m b) → goesOn n i w ≡ goesOn m i w
+        go : (w : DraftAgent) → draftAgentAt d i ≡ w → ((b : ℕ) → b < i → bodyWithin d n b ≡ bodyWithin d m b) → goesOn n i w ≡ goesOn m i w
         go (Plain a) e body = refl
         go (Watch t b) e body = body b (body-lower d law i e)
 
-    body-watch : (i : ℕ) {t b : ℕ} → writtenAt d i ≡ Watch t b → bodyOf d i ≡ bodyOf d b
+    body-watch : (i : ℕ) {t b : ℕ} → draftAgentAt d i ≡ Watch t b → bodyOf d i ≡ bodyOf d b
     unfolding bodyOf
     body-watch i {t} {b} e = within-watch i i e ∙ within-same i (suc b) b (body-lower d law i e) (omega arith)
 
-  body-plain : (i : ℕ) {a : Agent} → writtenAt d i ≡ Plain a → bodyOf d i ≡ i
+  body-plain : (i : ℕ) {a : Agent} → draftAgentAt d i ≡ Plain a → bodyOf d i ≡ i
   unfolding bodyOf
   body-plain i e = within-plain (suc i) i e
 
-  read-at : (i : ℕ) {a : Agent} → writtenAt d i ≡ Plain a → agentAt (unwatched d) (bodyOf d i) ≡ readOn d a
+  read-at : (i : ℕ) {a : Agent} → draftAgentAt d i ≡ Plain a → agentAt (unwatched d) (bodyOf d i) ≡ readOn d a
   unfolding unwatched
   read-at i e = rw (body-plain i e) (List·getD-map (λ w. readOn d (asWhen w)) (d .agents) i (Plain Skip) ∙ ap (λ w. readOn d (asWhen w)) e)
 
@@ -94,7 +94,7 @@ module _ (d : Draft) (law : LawfulDraft d) where
     asks = λ s p clear extends held. (t, List·Memᴰ·head refl, extends .back t known held);
   }
 
-  agent-read : (i : ℕ) (set : List ℕ) (a : Agent) → Within (WatchToken d) set → writtenAt d i ≡ Plain a → AgentCarried d (unwatched d) NoMember (Clear d) (Under d) (place d) i set a
+  agent-read : (i : ℕ) (set : List ℕ) (a : Agent) → Within (WatchToken d) set → draftAgentAt d i ≡ Plain a → AgentCarried d (unwatched d) NoMember (Clear d) (Under d) (place d) i set a
   agent-read i set Skip watches e = read-at d i e
   agent-read i set Abort watches e = read-at d i e
   agent-read i set (Tell t) watches e = read-at d i e
@@ -104,7 +104,7 @@ module _ (d : Draft) (law : LawfulDraft d) where
   agent-read i set (Unless t b) watches e = (t, read-at d i e, λ s p extends. extends .old t, asks-own t set (token-known d law i e t (List·Memᴰ·head refl)) watches, watches)
   agent-read i set (Call p) watches e = (p, read-at d i e, root-read d p (call-known (whens d) law i p (when-is d i e)), watches)
 
-  read-carried : (i : ℕ) (set : List ℕ) (w : Written) → Within (WatchToken d) set → writtenAt d i ≡ w → Carried d (unwatched d) NoMember (Clear d) (Under d) (place d) i set w
+  read-carried : (i : ℕ) (set : List ℕ) (w : DraftAgent) → Within (WatchToken d) set → draftAgentAt d i ≡ w → Carried d (unwatched d) NoMember (Clear d) (Under d) (place d) i set w
   read-carried i set (Plain a) watches e = agent-read i set a watches e
   read-carried i set (Watch t b) watches e = (body-watch d law i e, on-cons (i, b, e) watches)
 
@@ -121,7 +121,7 @@ module _ (d : Draft) (law : LawfulDraft d) where
     members-old = λ u m none. absurd none;
     members-new = λ u m none. absurd none;
     some-member = λ u high low. absurd (omega arith);
-    carried = λ i set watches. read-carried i set (writtenAt d i) watches refl;
+    carried = λ i set watches. read-carried i set (draftAgentAt d i) watches refl;
   }
 
   start-under : StandingAll d (unwatched d) NoMember (Clear d) (Under d) (place d) (startCopies d)

@@ -13,10 +13,10 @@ use native.Mathlib.Omega.{arith}
 use lib.ListN.{length}
 use Rattle.tcc.specs.Weight.{IsWeight, weighs}
 use Rattle.tcc.proofs.Multiset.{summed}
-use Rattle.draft_language.specs.Draft.{Draft, writtenAt, asWhen, whens, LawfulDraft}
+use Rattle.draft_language.specs.Draft.{Draft, draftAgentAt, asWhen, whens, LawfulDraft}
 use Rattle.draft_language.specs.Order.{Copy, Item, copy, input, End, Pick, Step, skip, tell, input-tell, parallel, call, when, unless, watch, Order, stop, step, abort, start}
 use Rattle.draft_language.specs.WeightBound.{total, ItemsBelow, WeightBound}
-use Rattle.draft_language.specs.declared.Written.{Written}
+use Rattle.draft_language.specs.declared.DraftAgent.{DraftAgent}
 use Rattle.draft_language.proofs.Whens.{when-is, whens-many}
 use Rattle.draft_language.proofs.Steps.{pick-member, pick-summed}
 use Rattle.draft_language.proofs.Below.{step-below, start-below}
@@ -26,10 +26,10 @@ itemWeight w (copy i set) = w i
 itemWeight w (input t) = 1
 
 module _ (d : Draft) (w : ℕ → ℕ) (is : IsWeight (whens d) w) where
-  weight-at : {i : ℕ} {x : Written} → i < length (d .agents) → writtenAt d i ≡ x → w i ≡ weighs (whens d) w (asWhen x)
+  weight-at : {i : ℕ} {x : DraftAgent} → i < length (d .agents) → draftAgentAt d i ≡ x → w i ≡ weighs (whens d) w (asWhen x)
   weight-at {i} h e = is i (omega (arith, whens-many d)) ∙ ap (weighs (whens d) w) (when-is d i e)
 
-  pick-weighs : {i : ℕ} {set : List ℕ} {l k : List Item} {x : Written} → Pick (copy i set) l k → writtenAt d i ≡ x → ItemsBelow d l → summed (itemWeight w) l ≡ weighs (whens d) w (asWhen x) + summed (itemWeight w) k
+  pick-weighs : {i : ℕ} {set : List ℕ} {l k : List Item} {x : DraftAgent} → Pick (copy i set) l k → draftAgentAt d i ≡ x → ItemsBelow d l → summed (itemWeight w) l ≡ weighs (whens d) w (asWhen x) + summed (itemWeight w) k
   pick-weighs {i} {set} p e below = omega (arith, pick-summed (itemWeight w) p, weight-at (below i set (pick-member p)) e)
 
   pub step-falls : {x : Item} {l k : List Item} {s s′ : List ℕ} → Step d x l s k s′ → ItemsBelow d l → summed (itemWeight w) k < summed (itemWeight w) l

@@ -3,7 +3,7 @@
 --     Chain          finished orders at each instant, each starting with the very copies that the one before left awake, and
 --                    how each ends; once one aborts, every later instant is aborted
 --     startCopies    "a draft that starts has procedure 0's root under no token"
---     statusOf       the status of a quiet instant: 1 where token 0 is in the store, and 0
+--     storeStatus    the status of a quiet instant: 1 where token 0 is in the store, and 0
 --     shownAt        the words of one instant: its status, its inputs and what goes to the ports
 --     shown          the words of the instants of a chain
 --     Journal        some chain from the start of a draft shows these words
@@ -33,12 +33,12 @@ pub data Chain (d : Draft) : List Copy → List (List ℕ) → List End → Type
 abbrev pub startCopies : Draft → List Copy
 startCopies d = record { agent = rootOf d 0; under = [] } ∷ []
 
-abbrev pub statusOf : List ℕ → ℕ
-statusOf s = cond (has 0 s) 1 0
+abbrev pub storeStatus : List ℕ → ℕ
+storeStatus s = cond (has 0 s) 1 0
 
 unfoldable pub shownAt : Draft → List ℕ → End → List ℕ
 shownAt d inputs aborted = instantWords 2 inputs []
-shownAt d inputs (left l s) = instantWords (statusOf s) inputs (output (whens d) (statusOf s) s)
+shownAt d inputs (left l s) = instantWords (storeStatus s) inputs (output (whens d) (storeStatus s) s)
 
 unfoldable pub shown : Draft → List (List ℕ) → List End → List ℕ
 shown d [] ends = []

@@ -1,6 +1,6 @@
 -- "A draft is a score in which an agent word may be kind 15, watch."
 --     Draft                    T tokens, the ports, the agents as written, the root of each procedure, the rules
---     writtenAt, rootOf        agent i; the root agent of procedure p
+--     draftAgentAt, rootOf     agent i; the root agent of procedure p
 --     asWhen, whens            "tested like a when", "unguarded like one": a watch, and each watch of a draft, read as a when
 --     LawfulDraft              what every draft has that the check of drafts accepts
 use Prim.Native.Nat.{ℕ}
@@ -11,24 +11,24 @@ use Rattle.tcc.specs.Score.{Score}
 use Rattle.tcc.specs.Lawful.{Lawful}
 use Rattle.tcc.specs.declared.Agent.{Agent}
 use Rattle.tcc.specs.declared.Agent.the-variants.{Skip, When}
-use Rattle.draft_language.specs.declared.Written.{Written}
-use Rattle.draft_language.specs.declared.Written.the-variants.{Plain, Watch}
+use Rattle.draft_language.specs.declared.DraftAgent.{DraftAgent}
+use Rattle.draft_language.specs.declared.DraftAgent.the-variants.{Plain, Watch}
 
 pub record Draft : Type 0 where
   pub tokens : ℕ
   pub lowest-port : ℕ
   pub highest-port : ℕ
-  pub agents : List Written
+  pub agents : List DraftAgent
   pub roots : List ℕ
   pub rules : List (Rule ℕ)
 
-abbrev pub writtenAt : Draft → ℕ → Written
-writtenAt d i = getD (d .agents) i (Plain Skip)
+abbrev pub draftAgentAt : Draft → ℕ → DraftAgent
+draftAgentAt d i = getD (d .agents) i (Plain Skip)
 
 abbrev pub rootOf : Draft → ℕ → ℕ
 rootOf d p = getD (d .roots) p 0
 
-abbrev pub asWhen : Written → Agent
+abbrev pub asWhen : DraftAgent → Agent
 asWhen (Plain a) = a
 asWhen (Watch t b) = When t b
 

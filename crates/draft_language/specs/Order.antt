@@ -21,9 +21,9 @@ use Rattle.laws.specs.Sets.{any, has}
 use Rattle.tcc.specs.Store.{Closes}
 use Rattle.tcc.specs.declared.Agent.{Agent}
 use Rattle.tcc.specs.declared.Agent.the-variants.{Skip, Abort, Tell, Parallel, When, Next, Unless, Call}
-use Rattle.draft_language.specs.Draft.{Draft, writtenAt, rootOf, whens}
-use Rattle.draft_language.specs.declared.Written.{Written}
-use Rattle.draft_language.specs.declared.Written.the-variants.{Plain, Watch}
+use Rattle.draft_language.specs.Draft.{Draft, draftAgentAt, rootOf, whens}
+use Rattle.draft_language.specs.declared.DraftAgent.{DraftAgent}
+use Rattle.draft_language.specs.declared.DraftAgent.the-variants.{Plain, Watch}
 
 pub record Copy : Type 0 where
   pub agent : ℕ
@@ -38,14 +38,14 @@ pub data Pick (x : Item) : List Item → List Item → Type 0 where
   there : {y : Item} {l k : List Item} → Pick x l k → Pick x (y ∷ l) (y ∷ k)
 
 pub data Step (d : Draft) : Item → List Item → List ℕ → List Item → List ℕ → Type 0 where
-  skip : {i : ℕ} {set : List ℕ} {l k : List Item} {s : List ℕ} → Pick (copy i set) l k → writtenAt d i ≡ Plain Skip → Step d (copy i set) l s k s
-  tell : {i t : ℕ} {set : List ℕ} {l k : List Item} {s s′ : List ℕ} → Pick (copy i set) l k → writtenAt d i ≡ Plain (Tell t) → Closes (whens d) (t ∷ s) s′ → Step d (copy i set) l s k s′
+  skip : {i : ℕ} {set : List ℕ} {l k : List Item} {s : List ℕ} → Pick (copy i set) l k → draftAgentAt d i ≡ Plain Skip → Step d (copy i set) l s k s
+  tell : {i t : ℕ} {set : List ℕ} {l k : List Item} {s s′ : List ℕ} → Pick (copy i set) l k → draftAgentAt d i ≡ Plain (Tell t) → Closes (whens d) (t ∷ s) s′ → Step d (copy i set) l s k s′
   input-tell : {t : ℕ} {l k : List Item} {s s′ : List ℕ} → Pick (input t) l k → Closes (whens d) (t ∷ s) s′ → Step d (input t) l s k s′
-  parallel : {i a b : ℕ} {set : List ℕ} {l k : List Item} {s : List ℕ} → Pick (copy i set) l k → writtenAt d i ≡ Plain (Parallel a b) → Step d (copy i set) l s (copy a set ∷ copy b set ∷ k) s
-  call : {i p : ℕ} {set : List ℕ} {l k : List Item} {s : List ℕ} → Pick (copy i set) l k → writtenAt d i ≡ Plain (Call p) → Step d (copy i set) l s (copy (rootOf d p) set ∷ k) s
-  when : {i t b : ℕ} {set : List ℕ} {l k : List Item} {s : List ℕ} → Pick (copy i set) l k → writtenAt d i ≡ Plain (When t b) → List·Memᴰ t s → Step d (copy i set) l s (copy b set ∷ k) s
-  unless : {i t b : ℕ} {set : List ℕ} {l k : List Item} {s : List ℕ} → Pick (copy i set) l k → writtenAt d i ≡ Plain (Unless t b) → List·Memᴰ t s → Step d (copy i set) l s k s
-  watch : {i t b : ℕ} {set : List ℕ} {l k : List Item} {s : List ℕ} → Pick (copy i set) l k → writtenAt d i ≡ Watch t b → Step d (copy i set) l s (copy b (t ∷ set) ∷ k) s
+  parallel : {i a b : ℕ} {set : List ℕ} {l k : List Item} {s : List ℕ} → Pick (copy i set) l k → draftAgentAt d i ≡ Plain (Parallel a b) → Step d (copy i set) l s (copy a set ∷ copy b set ∷ k) s
+  call : {i p : ℕ} {set : List ℕ} {l k : List Item} {s : List ℕ} → Pick (copy i set) l k → draftAgentAt d i ≡ Plain (Call p) → Step d (copy i set) l s (copy (rootOf d p) set ∷ k) s
+  when : {i t b : ℕ} {set : List ℕ} {l k : List Item} {s : List ℕ} → Pick (copy i set) l k → draftAgentAt d i ≡ Plain (When t b) → List·Memᴰ t s → Step d (copy i set) l s (copy b set ∷ k) s
+  unless : {i t b : ℕ} {set : List ℕ} {l k : List Item} {s : List ℕ} → Pick (copy i set) l k → draftAgentAt d i ≡ Plain (Unless t b) → List·Memᴰ t s → Step d (copy i set) l s k s
+  watch : {i t b : ℕ} {set : List ℕ} {l k : List Item} {s : List ℕ} → Pick (copy i set) l k → draftAgentAt d i ≡ Watch t b → Step d (copy i set) l s (copy b (t ∷ set) ∷ k) s
 
 -- an abort ends the instant with an empty store and no agent; otherwise what is left in the multiset, and the store
 pub data End : Type 0 where
@@ -56,11 +56,11 @@ pub data End : Type 0 where
 pub data Order (d : Draft) : List Item → List ℕ → List Item → End → Type 0 where
   stop : {l : List Item} {s : List ℕ} → Order d l s [] (left l s)
   step : {x : Item} {l k more : List Item} {s s′ : List ℕ} {e : End} → Step d x l s k s′ → Order d k s′ more e → Order d l s (x ∷ more) e
-  abort : {i : ℕ} {set : List ℕ} {l k : List Item} {s : List ℕ} → Pick (copy i set) l k → writtenAt d i ≡ Plain Abort → Order d l s (copy i set ∷ []) aborted
+  abort : {i : ℕ} {set : List ℕ} {l k : List Item} {s : List ℕ} → Pick (copy i set) l k → draftAgentAt d i ≡ Plain Abort → Order d l s (copy i set ∷ []) aborted
 
 pub record Quiet (d : Draft) (l : List Item) (s : List ℕ) : Type 0 where
   pub no-step : (x : Item) (k : List Item) (s′ : List ℕ) → Step d x l s k s′ → ⊥
-  pub no-abort : (i : ℕ) (set : List ℕ) (k : List Item) → Pick (copy i set) l k → writtenAt d i ≡ Plain Abort → ⊥
+  pub no-abort : (i : ℕ) (set : List ℕ) (k : List Item) → Pick (copy i set) l k → draftAgentAt d i ≡ Plain Abort → ⊥
 
 abbrev pub Finished : Draft → End → Type 0
 Finished d aborted = Unit {0}
@@ -79,13 +79,13 @@ agentWakes set (Next b) = record { agent = b; under = set } ∷ []
 agentWakes set (Unless t b) = record { agent = b; under = set } ∷ []
 agentWakes set (Call p) = []
 
-abbrev pub wakes : List ℕ → Written → List Copy
+abbrev pub wakes : List ℕ → DraftAgent → List Copy
 wakes set (Plain a) = agentWakes set a
 wakes set (Watch t b) = []
 
 abbrev pub awakeNext : Draft → List ℕ → List Item → List Copy
 awakeNext d s [] = []
-awakeNext d s (copy i set ∷ l) = cond (watched s set) [] (wakes set (writtenAt d i)) ++ awakeNext d s l
+awakeNext d s (copy i set ∷ l) = cond (watched s set) [] (wakes set (draftAgentAt d i)) ++ awakeNext d s l
 awakeNext d s (input t ∷ l) = awakeNext d s l
 
 abbrev pub start : List Copy → List ℕ → List Item

@@ -14,15 +14,15 @@ use Rattle.tcc.specs.Instant.{startState}
 use Rattle.tcc.specs.declared.Agent.{Agent}
 use Rattle.tcc.specs.declared.Agent.the-variants.{Skip, Abort, Tell, Parallel, When, Next, Unless, Call}
 use Rattle.journal_words.specs.History.{history}
-use Rattle.draft_language.specs.Draft.{Draft, writtenAt, asWhen, LawfulDraft}
+use Rattle.draft_language.specs.Draft.{Draft, draftAgentAt, asWhen, LawfulDraft}
 use Rattle.draft_language.specs.Order.{Item, End, left}
 use Rattle.draft_language.specs.Chain.{InputsKnown, Chain, startCopies, shown}
-use Rattle.draft_language.specs.declared.Written.the-variants.{Plain, Watch}
+use Rattle.draft_language.specs.declared.DraftAgent.the-variants.{Plain, Watch}
 
 -- n bounds the watches passed: a body has a lower number than its agent
 abbrev pub bodyWithin : Draft → ℕ → ℕ → ℕ
 bodyWithin d zero i = i
-bodyWithin d (suc n) i = elim (writtenAt d i) [ Plain a ↦ i | Watch t b ↦ bodyWithin d n b ]
+bodyWithin d (suc n) i = elim (draftAgentAt d i) [ Plain a ↦ i | Watch t b ↦ bodyWithin d n b ]
 
 unfoldable pub bodyOf : Draft → ℕ → ℕ
 bodyOf d i = bodyWithin d (suc i) i
@@ -49,7 +49,7 @@ unwatched d =
     }
 
 abbrev pub WatchToken : Draft → ℕ → Type 0
-WatchToken d t = (i : ℕ) × (b : ℕ) × (writtenAt d i ≡ Watch t b)
+WatchToken d t = (i : ℕ) × (b : ℕ) × (draftAgentAt d i ≡ Watch t b)
 
 abbrev pub NeverIn : Draft → List End → Type 0
 NeverIn d ends = (l : List Item) (s : List ℕ) → List·Memᴰ (left l s) ends → (t : ℕ) → WatchToken d t → List·Memᴰ t s → ⊥

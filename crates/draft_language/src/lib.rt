@@ -2,7 +2,7 @@
 use tcc::Agent;
 
 // An agent of a draft, as it is written there.
-pub enum Written {
+pub enum DraftAgent {
     // An agent that a score may have.
     Plain(Agent),
     // The token watched for, then the body.

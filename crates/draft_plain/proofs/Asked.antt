@@ -23,8 +23,8 @@ use Rattle.laws.proofs.Lists.{entry-member}
 use Rattle.laws.proofs.Sets.{Within, on-append, on-map, map-member, has-member, member-has}
 use Rattle.tcc.specs.Closure.{Rule}
 use Rattle.tcc.specs.Score.{tokensOf}
-use Rattle.draft_language.specs.Draft.{Draft, writtenAt, asWhen, LawfulDraft}
-use Rattle.draft_language.specs.declared.Written.{Written}
+use Rattle.draft_language.specs.Draft.{Draft, draftAgentAt, asWhen, LawfulDraft}
+use Rattle.draft_language.specs.declared.DraftAgent.{DraftAgent}
 use Rattle.draft_language.proofs.Whens.{when-is}
 use Rattle.draft_language.proofs.Carries.{Extends, memberRule}
 use Rattle.draft_pairs.specs.TokenSets.{holds, members, several}
@@ -39,7 +39,7 @@ abbrev pub Known : Draft → List ℕ → Type 0
 Known d l = Within (λ t. t < d .tokens) l
 
 module _ (d : Draft) (law : LawfulDraft d) where
-  pub token-known : (i : ℕ) {w : Written} → writtenAt d i ≡ w → Known d (tokensOf (asWhen w))
+  pub token-known : (i : ℕ) {w : DraftAgent} → draftAgentAt d i ≡ w → Known d (tokensOf (asWhen w))
   token-known i e t m = law .tokens-known i t (subst⁻¹ (λ a. List·Memᴰ t (tokensOf a)) (when-is d i e) m)
 
   known-few : (l : List ℕ) → Known d l → Within (λ t. t < 256) l

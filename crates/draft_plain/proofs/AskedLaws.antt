@@ -24,8 +24,8 @@ use Rattle.laws.proofs.Sets.{Within, on-cons, on-append, on-keep, keep-kept, ke
 use Rattle.laws.proofs.Rising.{rising-unique}
 use Rattle.tcc.specs.declared.Agent.{Agent}
 use Rattle.tcc.specs.declared.Agent.the-variants.{Skip, Abort, Tell, Parallel, When, Next, Unless, Call}
-use Rattle.draft_language.specs.Draft.{Draft, writtenAt, asWhen, LawfulDraft}
-use Rattle.draft_language.specs.declared.Written.the-variants.{Plain}
+use Rattle.draft_language.specs.Draft.{Draft, draftAgentAt, asWhen, LawfulDraft}
+use Rattle.draft_language.specs.declared.DraftAgent.the-variants.{Plain}
 use Rattle.draft_pairs.specs.TokenSets.{holds, with, members, several}
 use Rattle.draft_pairs.specs.Pairs.{insertAll, numberIn, setIn, indexOf}
 use Rattle.draft_plain.specs.Places.{places, agentPlaces}
@@ -108,7 +108,7 @@ with-known tokens t set h known u e = go (eqb u t) refl (sym (holds-with t u set
     go false q e′ = known u e′
 
 module _ (d : Draft) (law : LawfulDraft d) (k : ℕ) (led : Led d k) where
-  pub asks-known : {a : Agent} → writtenAt d (numberIn k) ≡ Plain a → Within (λ set. (t : ℕ) → holds set t ≡ true → t < d .tokens) (asksFor (setIn k) a)
+  pub asks-known : {a : Agent} → draftAgentAt d (numberIn k) ≡ Plain a → Within (λ set. (t : ℕ) → holds set t ≡ true → t < d .tokens) (asksFor (setIn k) a)
   asks-known {a = Skip} e = λ set m. elim m [ ]
   asks-known {a = Abort} e = λ set m. elim m [ ]
   asks-known {a = Tell t} e = λ set m. elim m [ ]

@@ -27,9 +27,9 @@ use Rattle.tcc.specs.Score.{agentAt, tokensOf, partsOf, proceduresOf}
 use Rattle.tcc.specs.Score as plain
 use Rattle.tcc.specs.declared.Agent.{Agent}
 use Rattle.tcc.specs.declared.Agent.the-variants.{Skip, Abort, Tell, Parallel, When, Next, Unless, Call}
-use Rattle.draft_language.specs.Draft.{Draft, writtenAt, rootOf, asWhen, LawfulDraft}
-use Rattle.draft_language.specs.declared.Written.{Written}
-use Rattle.draft_language.specs.declared.Written.the-variants.{Plain, Watch}
+use Rattle.draft_language.specs.Draft.{Draft, draftAgentAt, rootOf, asWhen, LawfulDraft}
+use Rattle.draft_language.specs.declared.DraftAgent.{DraftAgent}
+use Rattle.draft_language.specs.declared.DraftAgent.the-variants.{Plain, Watch}
 use Rattle.draft_language.proofs.Carries.{Asks, NextCarried, AgentCarried, Carried, Carries}
 use Rattle.draft_pairs.specs.TokenSets.{with, several}
 use Rattle.draft_plain.specs.Stands.{Stands, agent, procedure, start, root, part, called, watched}
@@ -68,7 +68,7 @@ module _ (d : Draft) (law : LawfulDraft d) (fit : fits (plainOf d) ≡ true) whe
   unfolding plainOf
   pairs-fit = places-fit d (fits-sizes (plainOf d) fit)
 
-  module _ (i : ℕ) (set : List ℕ) (a : Agent) (st : Standing d i set) (e : writtenAt d i ≡ Plain a) where
+  module _ (i : ℕ) (set : List ℕ) (a : Agent) (st : Standing d i set) (e : draftAgentAt d i ≡ Plain a) where
     pair-number : numberIn (pair i (sumOf set)) ≡ i
     pair-number = number-pair i (sumOf set) (known-bound d law set (st .1))
 
@@ -76,7 +76,7 @@ module _ (d : Draft) (law : LawfulDraft d) (fit : fits (plainOf d) ≡ true) whe
     pair-set = set-pair i (sumOf set) (known-bound d law set (st .1))
 
     pair-agent : agentIn d (pair i (sumOf set)) ≡ a
-    pair-agent = ap (λ n. asWhen (writtenAt d n)) pair-number ∙ ap asWhen e
+    pair-agent = ap (λ n. asWhen (draftAgentAt d n)) pair-number ∙ ap asWhen e
 
     pair-low : numberIn (pair i (sumOf set)) < 1024
     pair-low = omega (arith, pair-number, stands-bound-agent d law i (sumOf set) (st .0) .1, draft-agents d law)
@@ -143,7 +143,7 @@ module _ (d : Draft) (law : LawfulDraft d) (fit : fits (plainOf d) ≡ true) whe
       let at = c .procedures-stand p (List·Memᴰ·head refl) in
       (indexOf (pair (procedureAt p) (sumOf set)) (proceduresIn d), c .is-agent, root-at p set at (c .under-known), (root at, c .under-known))
 
-  carried : (i : ℕ) (set : List ℕ) (w : Written) → Standing d i set → writtenAt d i ≡ w → Carried d (plainOf d) (Member d) (λ s. Unit {0}) (Standing d) (placeOf d) i set w
+  carried : (i : ℕ) (set : List ℕ) (w : DraftAgent) → Standing d i set → draftAgentAt d i ≡ w → Carried d (plainOf d) (Member d) (λ s. Unit {0}) (Standing d) (placeOf d) i set w
   carried i set (Plain a) st e = agent-carried i set a (copied i set a st e)
   carried i set (Watch t b) st e = (ap (λ k. indexOf k (agentsIn d)) (target-watch d law i (sumOf set) t b e), (watched (st .0) e, on-cons (token-known d law i e t (List·Memᴰ·head refl)) (st .1)))
 
@@ -161,7 +161,7 @@ module _ (d : Draft) (law : LawfulDraft d) (fit : fits (plainOf d) ≡ true) whe
         members-old = member-old d law;
         members-new = λ u m x. let is : u ≡ d .tokens + x .0 = x .2 in omega arith;
         some-member = member-some d;
-        carried = λ i set st. carried i set (writtenAt d i) st refl;
+        carried = λ i set st. carried i set (draftAgentAt d i) st refl;
       }
 
 -- a number that is a member of a rising list and below no member stands first

@@ -29,7 +29,7 @@ use borrow.Author.Tests.{eqb-true, eqb-false, ltb-false, le-leb}
 use Rattle.laws.specs.Sets.{keep, has}
 use Rattle.laws.specs.Rising.{Rising, one}
 use Rattle.laws.proofs.Booleans.{true-is-false, either, by-test}
-use Rattle.laws.proofs.Sets.{Within, Among, on-cons, on-append, on-keep, keep-kept, has-member, member-has}
+use Rattle.laws.proofs.Sets.{Within, Among, on-cons, on-append, has-member, member-has}
 use Rattle.laws.proofs.Rising.{rising-unique}
 use Rattle.draft_language.specs.Draft.{Draft}
 use Rattle.draft_pairs.specs.Pairs.{pair, numberIn, insertAll}

@@ -11,7 +11,7 @@ use Rattle.laws.specs.Sets.{Same}
 use Rattle.laws.proofs.Sets.{on-cons, same-refl}
 use Rattle.tcc.specs.Score as plain
 use Rattle.draft_language.specs.Draft.{Draft, rootOf, asWhen, LawfulDraft}
-use Rattle.draft_language.specs.Order.{Copy, End, aborted, left}
+use Rattle.draft_language.specs.Order.{End, aborted, left}
 use Rattle.draft_language.specs.Chain.{InputsKnown, Chain, startCopies, shown}
 use Rattle.draft_language.specs.WeightBound.{CopiesBelow}
 use Rattle.draft_language.proofs.Carries.{OkEnd, StandingAll}

@@ -19,8 +19,8 @@ use borrow.Author.Tests.{leb-false}
 use Rattle.laws.proofs.Sets.{Within, on-cons, on-map, map-member}
 use Rattle.tcc.specs.declared.Agent.{Agent}
 use Rattle.tcc.specs.declared.Agent.the-variants.{Skip, Abort, Tell, Parallel, When, Next, Unless, Call}
-use Rattle.draft_language.specs.Draft.{Draft, writtenAt, asWhen, LawfulDraft}
-use Rattle.draft_language.specs.declared.Written.the-variants.{Plain}
+use Rattle.draft_language.specs.Draft.{Draft, draftAgentAt, asWhen, LawfulDraft}
+use Rattle.draft_language.specs.declared.DraftAgent.the-variants.{Plain}
 use Rattle.draft_pairs.specs.TokenSets.{with, several}
 use Rattle.draft_plain.specs.Stands.{Place, agent, procedure, Stands, root}
 use Rattle.draft_pairs.specs.Pairs.{pair, numberIn, setIn}
@@ -87,7 +87,7 @@ module _ (d : Draft) (law : LawfulDraft d) where
           let number : procedureAt (numberIn j - 1024) ≡ numberIn j = omega arith in
           ap (λ i. pair i (setIn j)) number ∙ pair-parts j
 
-  asks-asked : (k : ℕ) → Stands d (agentPlace k) → (a : Agent) → writtenAt d (numberIn k) ≡ Plain a → Within (λ set. several set ≡ true → Asked d set) (asksFor (setIn k) a)
+  asks-asked : (k : ℕ) → Stands d (agentPlace k) → (a : Agent) → draftAgentAt d (numberIn k) ≡ Plain a → Within (λ set. several set ≡ true → Asked d set) (asksFor (setIn k) a)
   asks-asked k s Skip e = λ set m. elim m [ ]
   asks-asked k s Abort e = λ set m. elim m [ ]
   asks-asked k s (Tell t) e = λ set m. elim m [ ]
@@ -126,7 +126,7 @@ module _ (d : Draft) (law : LawfulDraft d) where
   set-small {i} {set} s = lt-of-lt-of-le (stands-bound-agent d law i set s .0) (pow-mono (law .most-tokens))
 
   module _ (fit : PlacesFit (places d)) where
-    pair-listed : (i set : ℕ) (a : Agent) → writtenAt d i ≡ Plain a → Stands d (agent i set) → List·Memᴰ (pair i set) (agentsIn d)
+    pair-listed : (i set : ℕ) (a : Agent) → draftAgentAt d i ≡ Plain a → Stands d (agent i set) → List·Memᴰ (pair i set) (agentsIn d)
     pair-listed i set a e s = agent-listed d law fit (subst (Led d) (target-plain d i set a e) (stands-led-agent d law i set s)) (omega (arith, number-pair i set (set-small s), stands-bound-agent d law i set s .1, draft-agents d law))
 
     agent-counted : (x : Place) → AgentPair d x → List·Memᴰ x (map agentPlace (agentsIn d))
@@ -142,11 +142,11 @@ module _ (d : Draft) (law : LawfulDraft d) where
         let back : numberIn (pair (procedureAt p) set) - 1024 ≡ p = omega arith in
         Memᴰ·cast (is ∙ sym (ap₂ procedure back (set-pair (procedureAt p) set (set-small (root s))))) (map-member procedurePlace listed)
 
-    asks-listed : (i set asked : ℕ) (a : Agent) → writtenAt d i ≡ Plain a → Stands d (agent i set) → List·Memᴰ asked (asksFor set a) → several asked ≡ true → List·Memᴰ asked (setsIn d)
+    asks-listed : (i set asked : ℕ) (a : Agent) → draftAgentAt d i ≡ Plain a → Stands d (agent i set) → List·Memᴰ asked (asksFor set a) → several asked ≡ true → List·Memᴰ asked (setsIn d)
     asks-listed i set asked a e s m = asked-listed d (pair-listed i set a e s) (subst⁻¹ (λ l. List·Memᴰ asked l) asks m)
       where
         asks : asksFor (setIn (pair i set)) (agentIn d (pair i set)) ≡ asksFor set a
-        asks = ap₂ asksFor (set-pair i set (set-small s)) (ap (λ n. asWhen (writtenAt d n)) (number-pair i set (set-small s)) ∙ ap asWhen e)
+        asks = ap₂ asksFor (set-pair i set (set-small s)) (ap (λ n. asWhen (draftAgentAt d n)) (number-pair i set (set-small s)) ∙ ap asWhen e)
 
     asked-counted : (set : ℕ) → Asked d set → List·Memᴰ set (setsIn d)
     asked-counted set (by-next {i = i} {b = b} s e h) = asks-listed i set set (Next b) e s (List·Memᴰ·head refl) h

@@ -30,14 +30,13 @@ use lib.Pow.{pow-mono, pow-pos}
 use borrow.Author.Tests.{lt-ltb, le-ltb}
 use Rattle.laws.proofs.Booleans.{true-is-false}
 use Rattle.laws.proofs.Sets.{Within, on-cons, on-append, on-map, map-member}
-use Rattle.tcc.specs.Score.{agentAt, tokensOf, partsOf, proceduresOf}
+use Rattle.tcc.specs.Score.{tokensOf, partsOf, proceduresOf}
 use Rattle.tcc.specs.declared.Agent.{Agent}
-use Rattle.tcc.specs.declared.Agent.the-variants.{Skip}
 use Rattle.tcc.proofs.Multiset.{part-lower}
-use Rattle.draft_language.specs.Draft.{Draft, writtenAt, rootOf, asWhen, whens, LawfulDraft}
+use Rattle.draft_language.specs.Draft.{Draft, draftAgentAt, rootOf, asWhen, whens, LawfulDraft}
 use Rattle.draft_language.proofs.Whens.{when-is}
-use Rattle.draft_language.specs.declared.Written.{Written}
-use Rattle.draft_language.specs.declared.Written.the-variants.{Plain, Watch}
+use Rattle.draft_language.specs.declared.DraftAgent.{DraftAgent}
+use Rattle.draft_language.specs.declared.DraftAgent.the-variants.{Plain, Watch}
 use Rattle.draft_pairs.specs.TokenSets.{holds, with}
 use Rattle.draft_plain.specs.Stands.{Place, agent, procedure, Stands, start, root, part, called, watched}
 use Rattle.draft_pairs.specs.Pairs.{pair, numberIn, setIn}
@@ -45,29 +44,29 @@ use Rattle.draft_plain.specs.Led.{Led, first, on}
 use Rattle.draft_plain.specs.Places.{procedureAt, targetWithin, target, agentLeads, leadsTo}
 use Rattle.draft_pairs.proofs.TokenSets.{with-bound, number-pair, set-pair}
 
-body-lower : (d : Draft) → LawfulDraft d → (i : ℕ) {t b : ℕ} → writtenAt d i ≡ Watch t b → b < i
+body-lower : (d : Draft) → LawfulDraft d → (i : ℕ) {t b : ℕ} → draftAgentAt d i ≡ Watch t b → b < i
 body-lower d law i {t} {b} e = part-lower (whens d) law i (when-is d i e) b (List·Memᴰ·head refl)
 
-watch-known : (d : Draft) → LawfulDraft d → (i : ℕ) {t b : ℕ} → writtenAt d i ≡ Watch t b → t < d .tokens
+watch-known : (d : Draft) → LawfulDraft d → (i : ℕ) {t b : ℕ} → draftAgentAt d i ≡ Watch t b → t < d .tokens
 watch-known d law i {t} e = law .tokens-known i t (subst (λ a. List·Memᴰ t (tokensOf a)) (sym (when-is d i e)) (List·Memᴰ·head refl))
 
 -- a turn of `targetWithin`, over any agent in place of agent i
-abbrev goesOn : Draft → ℕ → ℕ → ℕ → Written → ℕ
+abbrev goesOn : Draft → ℕ → ℕ → ℕ → DraftAgent → ℕ
 goesOn d n i set w = elim w [ Plain a ↦ pair i set | Watch t b ↦ targetWithin d n b (with t set) ]
 
-within-plain : (d : Draft) (n i set : ℕ) {a : Agent} → writtenAt d i ≡ Plain a → targetWithin d n i set ≡ pair i set
+within-plain : (d : Draft) (n i set : ℕ) {a : Agent} → draftAgentAt d i ≡ Plain a → targetWithin d n i set ≡ pair i set
 within-plain d zero i set e = refl
 within-plain d (suc n) i set e = ap (goesOn d n i set) e
 
-within-watch : (d : Draft) (n i set : ℕ) {t b : ℕ} → writtenAt d i ≡ Watch t b → targetWithin d (suc n) i set ≡ targetWithin d n b (with t set)
+within-watch : (d : Draft) (n i set : ℕ) {t b : ℕ} → draftAgentAt d i ≡ Watch t b → targetWithin d (suc n) i set ≡ targetWithin d n b (with t set)
 within-watch d n i set e = ap (goesOn d n i set) e
 
-module _ (d : Draft) (law : LawfulDraft d) (P : ℕ → ℕ → ℕ → Type 0) (plain : (i set : ℕ) (a : Agent) → writtenAt d i ≡ Plain a → P i set (pair i set)) (watch : (i set k t b : ℕ) → writtenAt d i ≡ Watch t b → P b (with t set) k → P i set k) where
+module _ (d : Draft) (law : LawfulDraft d) (P : ℕ → ℕ → ℕ → Type 0) (plain : (i set : ℕ) (a : Agent) → draftAgentAt d i ≡ Plain a → P i set (pair i set)) (watch : (i set k t b : ℕ) → draftAgentAt d i ≡ Watch t b → P b (with t set) k → P i set k) where
   ends-within : (n i set : ℕ) → i < n → P i set (targetWithin d n i set)
   ends-within zero i set h = absurd (omega arith)
-  ends-within (suc n) i set h = go (writtenAt d i) refl (λ t b lt. ends-within n b (with t set) (omega arith))
+  ends-within (suc n) i set h = go (draftAgentAt d i) refl (λ t b lt. ends-within n b (with t set) (omega arith))
     where
-      go : (w : Written) → writtenAt d i ≡ w → ((t b : ℕ) → b < i → P b (with t set) (targetWithin d n b (with t set))) → P i set (goesOn d n i set w)
+      go : (w : DraftAgent) → draftAgentAt d i ≡ w → ((t b : ℕ) → b < i → P b (with t set) (targetWithin d n b (with t set))) → P i set (goesOn d n i set w)
       go (Plain a) e body = plain i set a e
       go (Watch t b) e body = watch i set (targetWithin d n b (with t set)) t b e (body t b (body-lower d law i e))
 
@@ -78,20 +77,20 @@ module _ (d : Draft) (law : LawfulDraft d) (P : ℕ → ℕ → ℕ → Type 0) 
 target-bound : (d : Draft) → LawfulDraft d → (i set n : ℕ) → i < n → targetWithin d n i set ≡ target d i set
 target-bound d law = target-ends d law (λ i set k. (n : ℕ) → i < n → targetWithin d n i set ≡ k) (λ i set a e n h. within-plain d n i set e) watch
   where
-    watch : (i set k t b : ℕ) → writtenAt d i ≡ Watch t b → ((n : ℕ) → b < n → targetWithin d n b (with t set) ≡ k) → (n : ℕ) → i < n → targetWithin d n i set ≡ k
+    watch : (i set k t b : ℕ) → draftAgentAt d i ≡ Watch t b → ((n : ℕ) → b < n → targetWithin d n b (with t set) ≡ k) → (n : ℕ) → i < n → targetWithin d n i set ≡ k
     watch i set k t b e body zero h = absurd (omega arith)
     watch i set k t b e body (suc n) h = within-watch d n i set e ∙ body n (omega (arith, body-lower d law i e))
 
-pub target-plain : (d : Draft) (i set : ℕ) (a : Agent) → writtenAt d i ≡ Plain a → target d i set ≡ pair i set
+pub target-plain : (d : Draft) (i set : ℕ) (a : Agent) → draftAgentAt d i ≡ Plain a → target d i set ≡ pair i set
 unfolding target
 target-plain d i set a e = within-plain d (suc i) i set e
 
-pub target-watch : (d : Draft) → LawfulDraft d → (i set t b : ℕ) → writtenAt d i ≡ Watch t b → target d i set ≡ target d b (with t set)
+pub target-watch : (d : Draft) → LawfulDraft d → (i set t b : ℕ) → draftAgentAt d i ≡ Watch t b → target d i set ≡ target d b (with t set)
 unfolding target
 target-watch d law i set t b e = within-watch d i i set e ∙ target-bound d law b (with t set) i (body-lower d law i e)
 
 module _ (d : Draft) (k : ℕ) {set : ℕ} (under : setIn k ≡ set) where
-  pub leads-agent : {i : ℕ} {a : Agent} → numberIn k ≡ i → i < 1024 → writtenAt d i ≡ Plain a → leadsTo d k ≡ agentLeads d set (Plain a)
+  pub leads-agent : {i : ℕ} {a : Agent} → numberIn k ≡ i → i < 1024 → draftAgentAt d i ≡ Plain a → leadsTo d k ≡ agentLeads d set (Plain a)
   unfolding leadsTo
   leads-agent {i} n h e = rw (under, n, lt-ltb i 1024 h) (ap (agentLeads d set) e)
 
@@ -106,7 +105,7 @@ module _ (d : Draft) (k : ℕ) {set : ℕ} (under : setIn k ≡ set) where
 pub record KnownAgent (d : Draft) (k : ℕ) : Type 0 where
   pub known : numberIn k < length (d .agents)
   pub written : Agent
-  pub is-written : writtenAt d (numberIn k) ≡ Plain written
+  pub is-written : draftAgentAt d (numberIn k) ≡ Plain written
 
 pub record Known (d : Draft) (k : ℕ) : Type 0 where
   pub kind : KnownAgent d k ⊎ ((p : ℕ) × (p < length (d .roots)) × (numberIn k ≡ procedureAt p))
@@ -155,7 +154,7 @@ module _ (d : Draft) (law : LawfulDraft d) where
   pair-apart : (n set : ℕ) → set < 2 ^ d .tokens → (numberIn (pair n set) ≡ n) × (setIn (pair n set) ≡ set)
   pair-apart n set b = let b′ : set < 2 ^ 256 = le-trans b (pow-mono (law .most-tokens)) in (number-pair n set b′, set-pair n set b′)
 
-  agent-stands : (i set : ℕ) (a : Agent) → writtenAt d i ≡ Plain a → Stands d (agent i set) → AgentStands d (pair i set)
+  agent-stands : (i set : ℕ) (a : Agent) → draftAgentAt d i ≡ Plain a → Stands d (agent i set) → AgentStands d (pair i set)
   agent-stands i set a e s =
       let (below, known) = stands-bound s in
       let (n, u) = pair-apart i set below in
@@ -180,7 +179,7 @@ module _ (d : Draft) (law : LawfulDraft d) where
   led-stands first = inr (procedure-stands 0 0 start)
   led-stands (on {k = k} {m = m} l x) = leads-stand k (led-stands l) m x
 
-  agent-leads : {i set : ℕ} {a : Agent} → Stands d (agent i set) → writtenAt d i ≡ Plain a → leadsTo d (pair i set) ≡ agentLeads d set (Plain a)
+  agent-leads : {i set : ℕ} {a : Agent} → Stands d (agent i set) → draftAgentAt d i ≡ Plain a → leadsTo d (pair i set) ≡ agentLeads d set (Plain a)
   agent-leads {i} {set} s e =
       let (below, known) = stands-bound s in
       let (n, u) = pair-apart i set below in

@@ -21,9 +21,9 @@ use Rattle.tcc.specs.declared.Agent.{Agent}
 use Rattle.tcc.specs.declared.Agent.the-variants.{Skip, Abort, Tell, Parallel, When, Next, Unless, Call}
 use Rattle.tcc.proofs.Multiset.{part-lower}
 use Rattle.tcc.proofs.Unguarded.{CallsKnown, leads-known}
-use Rattle.draft_language.specs.Draft.{Draft, writtenAt, rootOf, asWhen, whens, LawfulDraft}
-use Rattle.draft_language.specs.declared.Written.{Written}
-use Rattle.draft_language.specs.declared.Written.the-variants.{Plain, Watch}
+use Rattle.draft_language.specs.Draft.{Draft, draftAgentAt, rootOf, asWhen, whens, LawfulDraft}
+use Rattle.draft_language.specs.declared.DraftAgent.{DraftAgent}
+use Rattle.draft_language.specs.declared.DraftAgent.the-variants.{Plain, Watch}
 use Rattle.draft_pairs.specs.TokenSets.{with}
 use Rattle.draft_pairs.specs.Pairs.{pair, numberIn, setIn, indexOf}
 use Rattle.draft_plain.specs.Places.{procedureAt, target, places}
@@ -37,9 +37,9 @@ use Rattle.draft_plain.proofs.PlainScore.{agentsIn, proceduresIn, score
 module _ (d : Draft) (law : LawfulDraft d) where
   target-leads : (n i set : ℕ) {q : ℕ} → i < n → set < 2 ^ 256 → Leads (whens d) (numberIn (target d i set)) q → Leads (whens d) i q
   target-leads zero i set h bound l = absurd (not-suc-le-zero h)
-  target-leads (suc n) i set {q} h bound l = go (writtenAt d i) refl (λ j s. target-leads n j s {q = q})
+  target-leads (suc n) i set {q} h bound l = go (draftAgentAt d i) refl (λ j s. target-leads n j s {q = q})
     where
-      go : (w : Written) → writtenAt d i ≡ w → ((j s : ℕ) → j < n → s < 2 ^ 256 → Leads (whens d) (numberIn (target d j s)) q → Leads (whens d) j q) → Leads (whens d) i q
+      go : (w : DraftAgent) → draftAgentAt d i ≡ w → ((j s : ℕ) → j < n → s < 2 ^ 256 → Leads (whens d) (numberIn (target d j s)) q → Leads (whens d) j q) → Leads (whens d) i q
       go (Plain a) e on = subst (λ j. Leads (whens d) j q) (ap numberIn (target-plain d i set a e) ∙ number-pair i set bound) l
       go (Watch t b) e on =
           let written : agentAt (whens d) i ≡ When t b = when-at d i ∙ ap asWhen e in
@@ -73,16 +73,16 @@ module _ (d : Draft) (law : LawfulDraft d) where
     target-reads b set bound m q l = target-leads (suc b) b set (omega arith) bound (subst (λ k. Leads (whens d) (numberIn k) q) (index-at (target d b set) (agentsIn d) m) l)
 
     module _ (k : ℕ) (m : List·Memᴰ k (agentsIn d)) where
-      part-reads : {a : Agent} → writtenAt d (numberIn k) ≡ Plain a → Within (λ b. Reads (placeOf d (setIn k) b) b) (partsOf a)
+      part-reads : {a : Agent} → draftAgentAt d (numberIn k) ≡ Plain a → Within (λ b. Reads (placeOf d (setIn k) b) b) (partsOf a)
       part-reads e b n = target-reads b (setIn k) (set-bound k) (part-listed d law fit k m e n)
 
-      call-read : {p : ℕ} → writtenAt d (numberIn k) ≡ Plain (Call p) → procedureOf (indexOf (pair (procedureAt p) (setIn k)) (proceduresIn d)) ≡ p
+      call-read : {p : ℕ} → draftAgentAt d (numberIn k) ≡ Plain (Call p) → procedureOf (indexOf (pair (procedureAt p) (setIn k)) (proceduresIn d)) ≡ p
       call-read {p} e =
           let at = index-at (pair (procedureAt p) (setIn k)) (proceduresIn d) (call-listed d law fit k m e (List·Memᴰ·head refl)) in
           let number = ap numberIn at ∙ number-pair (procedureAt p) (setIn k) (set-bound k) in
           omega arith
 
-      unguarded : (a : Agent) → writtenAt d (numberIn k) ≡ Plain a → Unguarded (numberIn k) (agentBy d (setIn k) a)
+      unguarded : (a : Agent) → draftAgentAt d (numberIn k) ≡ Plain a → Unguarded (numberIn k) (agentBy d (setIn k) a)
       unguarded Skip e = tt
       unguarded Abort e = tt
       unguarded (Tell t) e = tt

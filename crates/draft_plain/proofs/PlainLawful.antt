@@ -20,8 +20,8 @@ use Rattle.tcc.specs.Score as plain
 use Rattle.tcc.specs.Lawful.{Lawful}
 use Rattle.tcc.specs.declared.Agent.{Agent}
 use Rattle.tcc.specs.declared.Agent.the-variants.{Skip, Abort, Tell, Parallel, When, Next, Unless, Call}
-use Rattle.draft_language.specs.Draft.{Draft, writtenAt, rootOf, asWhen, LawfulDraft}
-use Rattle.draft_language.specs.declared.Written.the-variants.{Plain}
+use Rattle.draft_language.specs.Draft.{Draft, draftAgentAt, rootOf, asWhen, LawfulDraft}
+use Rattle.draft_language.specs.declared.DraftAgent.the-variants.{Plain}
 use Rattle.draft_pairs.specs.TokenSets.{with, members}
 use Rattle.draft_pairs.specs.Pairs.{pair, numberIn, setIn, indexOf}
 use Rattle.draft_plain.specs.Places.{procedureAt, target, places}
@@ -38,22 +38,22 @@ use Rattle.draft_plain.proofs.PlainCalls.{plain-circles}
 
 module _ (d : Draft) (law : LawfulDraft d) where
   module _ (k : ℕ) (m : List·Memᴰ k (agentsIn d)) where
-    asked-below : {a : Agent} → writtenAt d (numberIn k) ≡ Plain a → {set : ℕ} → List·Memᴰ set (asksFor (setIn k) a) → (members set ≡ [] → ⊥) → askedToken (d .tokens) (setsIn d) set < scoreIn d .tokens
+    asked-below : {a : Agent} → draftAgentAt d (numberIn k) ≡ Plain a → {set : ℕ} → List·Memᴰ set (asksFor (setIn k) a) → (members set ≡ [] → ⊥) → askedToken (d .tokens) (setsIn d) set < scoreIn d .tokens
     asked-below e {set} n some = asked-token-below (d .tokens) (setsIn d) set (asked-listed d m (subst⁻¹ (λ a. List·Memᴰ set (asksFor (setIn k) a)) (ap asWhen e) n)) (asks-known d law k (agent-led d m .0) e set n) some
 
-    next-below : {b : ℕ} → writtenAt d (numberIn k) ≡ Plain (Next b) → (setIn k ≡ 0 → ⊥) → askedToken (d .tokens) (setsIn d) (setIn k) < scoreIn d .tokens
+    next-below : {b : ℕ} → draftAgentAt d (numberIn k) ≡ Plain (Next b) → (setIn k ≡ 0 → ⊥) → askedToken (d .tokens) (setsIn d) (setIn k) < scoreIn d .tokens
     next-below e some = asked-below e (List·Memᴰ·head refl) (λ none. some (members-none (setIn k) (set-bound k) none))
 
-    unless-below : {t b : ℕ} → writtenAt d (numberIn k) ≡ Plain (Unless t b) → askedToken (d .tokens) (setsIn d) (with t (setIn k)) < scoreIn d .tokens
+    unless-below : {t b : ℕ} → draftAgentAt d (numberIn k) ≡ Plain (Unless t b) → askedToken (d .tokens) (setsIn d) (with t (setIn k)) < scoreIn d .tokens
     unless-below {t} {b} e =
         let h = written-tokens d law (numberIn k) e t (List·Memᴰ·head refl) in
         let small : t < 256 = omega (arith, law .most-tokens) in
         asked-below e (List·Memᴰ·head refl) (λ none. List·Memᴰ·not-nil (subst (λ l. List·Memᴰ t l) none (holds-member (with t (setIn k)) small (with-holds t (setIn k)))))
 
-    old-below : {a : Agent} → writtenAt d (numberIn k) ≡ Plain a → Within (λ t. t < scoreIn d .tokens) (tokensOf a)
+    old-below : {a : Agent} → draftAgentAt d (numberIn k) ≡ Plain a → Within (λ t. t < scoreIn d .tokens) (tokensOf a)
     old-below e t n = omega (arith, written-tokens d law (numberIn k) e t n)
 
-    agent-tokens : (a : Agent) → writtenAt d (numberIn k) ≡ Plain a → Within (λ t. t < scoreIn d .tokens) (tokensOf (agentBy d (setIn k) a))
+    agent-tokens : (a : Agent) → draftAgentAt d (numberIn k) ≡ Plain a → Within (λ t. t < scoreIn d .tokens) (tokensOf (agentBy d (setIn k) a))
     agent-tokens Skip e = λ t n. elim n [ ]
     agent-tokens Abort e = λ t n. elim n [ ]
     agent-tokens (Tell t) e = old-below e
@@ -65,10 +65,10 @@ module _ (d : Draft) (law : LawfulDraft d) where
 
   module _ (fit : PlacesFit (places d)) where
     module _ (k : ℕ) (m : List·Memᴰ k (agentsIn d)) where
-      part-index : {a : Agent} → writtenAt d (numberIn k) ≡ Plain a → Within (λ b. placeOf d (setIn k) b < indexOf k (agentsIn d)) (partsOf a)
+      part-index : {a : Agent} → draftAgentAt d (numberIn k) ≡ Plain a → Within (λ b. placeOf d (setIn k) b < indexOf k (agentsIn d)) (partsOf a)
       part-index e b n = index-order (target d b (setIn k)) k (agentsIn d) (agents-rising d) (part-listed d law fit k m e n) m (part-before d law fit k m e n)
 
-      agent-parts : (a : Agent) → writtenAt d (numberIn k) ≡ Plain a → Within (λ b. b < indexOf k (agentsIn d)) (partsOf (agentBy d (setIn k) a))
+      agent-parts : (a : Agent) → draftAgentAt d (numberIn k) ≡ Plain a → Within (λ b. b < indexOf k (agentsIn d)) (partsOf (agentBy d (setIn k) a))
       agent-parts Skip e = λ b n. elim n [ ]
       agent-parts Abort e = λ b n. elim n [ ]
       agent-parts (Tell t) e = λ b n. elim n [ ]
@@ -80,7 +80,7 @@ module _ (d : Draft) (law : LawfulDraft d) where
       agent-parts (Unless t b) e = on-cons (part-index e b (List·Memᴰ·head refl)) (λ b n. elim n [ ])
       agent-parts (Call p) e = λ b n. elim n [ ]
 
-      agent-calls : (a : Agent) → writtenAt d (numberIn k) ≡ Plain a → Within (λ p. p < length (scoreIn d .roots)) (proceduresOf (agentBy d (setIn k) a))
+      agent-calls : (a : Agent) → draftAgentAt d (numberIn k) ≡ Plain a → Within (λ p. p < length (scoreIn d .roots)) (proceduresOf (agentBy d (setIn k) a))
       agent-calls Skip e = λ p n. elim n [ ]
       agent-calls Abort e = λ p n. elim n [ ]
       agent-calls (Tell t) e = λ p n. elim n [ ]

@@ -20,8 +20,8 @@ use Rattle.tcc.specs.Score.{agentAt, tokensOf, partsOf, proceduresOf}
 use Rattle.tcc.specs.declared.Agent.{Agent}
 use Rattle.tcc.specs.declared.Agent.the-variants.{Skip}
 use Rattle.tcc.proofs.Multiset.{part-lower}
-use Rattle.draft_language.specs.Draft.{Draft, writtenAt, rootOf, asWhen, whens, LawfulDraft}
-use Rattle.draft_language.specs.declared.Written.the-variants.{Plain}
+use Rattle.draft_language.specs.Draft.{Draft, draftAgentAt, rootOf, asWhen, whens, LawfulDraft}
+use Rattle.draft_language.specs.declared.DraftAgent.the-variants.{Plain}
 use Rattle.draft_plain.specs.Stands.{root}
 use Rattle.draft_pairs.specs.Pairs.{pair, numberIn, setIn}
 use Rattle.draft_plain.specs.Places.{procedureAt, target, agentLeads, leadsTo, places, agentPlaces, procedurePlaces}
@@ -30,10 +30,10 @@ use Rattle.draft_plain.specs.Led.{Led, on}
 use Rattle.draft_plain.proofs.Places.{KnownAgent, led-known, led-stands-agent, led-stands-procedure, stands-bound-agent, target-lower}
 use Rattle.draft_plain.proofs.Copying.{PlacesFit, places-led, places-closed, led-closed}
 
-pub when-at : (d : Draft) (i : ℕ) → agentAt (whens d) i ≡ asWhen (writtenAt d i)
+pub when-at : (d : Draft) (i : ℕ) → agentAt (whens d) i ≡ asWhen (draftAgentAt d i)
 when-at d i = List·getD-map asWhen (d .agents) i (Plain Skip)
 
-pub leads-agent : (d : Draft) (k : ℕ) {a : Agent} → numberIn k < 1024 → writtenAt d (numberIn k) ≡ Plain a → leadsTo d k ≡ agentLeads d (setIn k) (Plain a)
+pub leads-agent : (d : Draft) (k : ℕ) {a : Agent} → numberIn k < 1024 → draftAgentAt d (numberIn k) ≡ Plain a → leadsTo d k ≡ agentLeads d (setIn k) (Plain a)
 unfolding leadsTo
 leads-agent d k h e = rw (lt-ltb (numberIn k) 1024 h, e)
 
@@ -51,10 +51,10 @@ module _ (d : Draft) (law : LawfulDraft d) where
   pub draft-agents : length (d .agents) ≤ 1024
   draft-agents = omega (arith, law .most-agents, length-map (d .agents) asWhen)
 
-  pub written-parts : (i : ℕ) {a : Agent} → writtenAt d i ≡ Plain a → Within (λ b. b < i) (partsOf a)
+  pub written-parts : (i : ℕ) {a : Agent} → draftAgentAt d i ≡ Plain a → Within (λ b. b < i) (partsOf a)
   written-parts i e = part-lower (whens d) law i (when-at d i ∙ ap asWhen e)
 
-  pub written-tokens : (i : ℕ) {a : Agent} → writtenAt d i ≡ Plain a → Within (λ t. t < d .tokens) (tokensOf a)
+  pub written-tokens : (i : ℕ) {a : Agent} → draftAgentAt d i ≡ Plain a → Within (λ t. t < d .tokens) (tokensOf a)
   written-tokens i e t m = law .tokens-known i t (subst⁻¹ (λ a. List·Memᴰ t (tokensOf a)) (when-at d i ∙ ap asWhen e) m)
 
   pub led-agent : {k : ℕ} → Led d k → numberIn k < 1024 → KnownAgent d k
@@ -79,7 +79,7 @@ module _ (d : Draft) (law : LawfulDraft d) where
     procedure-listed {k} l h = keep-kept (λ k. leb 1024 (numberIn k)) (led-closed d (places d) (places-closed d fit) k l) (le-leb 1024 (numberIn k) h)
 
     -- a pair of an agent other than a watch
-    module _ (k : ℕ) (m : List·Memᴰ k (agentPlaces (places d))) {a : Agent} (e : writtenAt d (numberIn k) ≡ Plain a) where
+    module _ (k : ℕ) (m : List·Memᴰ k (agentPlaces (places d))) {a : Agent} (e : draftAgentAt d (numberIn k) ≡ Plain a) where
       leads-on : {j : ℕ} → List·Memᴰ j (agentLeads d (setIn k) (Plain a)) → Led d j
       leads-on {j} n = on (agent-led d m .0) (subst⁻¹ (λ l. List·Memᴰ j l) (leads-agent d k (agent-led d m .1) e) n)
 

@@ -28,8 +28,8 @@ use Rattle.tcc.specs.Score.{Score, agentAt}
 use Rattle.tcc.specs.Score as plain
 use Rattle.tcc.specs.declared.Agent.{Agent}
 use Rattle.tcc.specs.declared.Agent.the-variants.{Skip}
-use Rattle.draft_language.specs.Draft.{Draft, writtenAt, rootOf, asWhen, LawfulDraft}
-use Rattle.draft_language.specs.declared.Written.the-variants.{Plain}
+use Rattle.draft_language.specs.Draft.{Draft, draftAgentAt, rootOf, asWhen, LawfulDraft}
+use Rattle.draft_language.specs.declared.DraftAgent.the-variants.{Plain}
 use Rattle.draft_pairs.specs.TokenSets.{members}
 use Rattle.draft_pairs.specs.Pairs.{numberIn, setIn, indexOf}
 use Rattle.draft_plain.specs.Places.{places, agentPlaces, procedurePlaces}
@@ -103,7 +103,7 @@ module _ (d : Draft) where
   pub root-at : (p : ℕ) → p < length proceduresIn → plain.rootOf scoreIn p ≡ rootBy (getD proceduresIn p 0)
   root-at p h = map-at rootBy proceduresIn p 0 0 h
 
-  pub on-plain-agents : LawfulDraft d → (P : ℕ → Agent → Type 0) → ((i : ℕ) → P i Skip) → ((k : ℕ) → List·Memᴰ k agentsIn → (a : Agent) → writtenAt d (numberIn k) ≡ Plain a → P (indexOf k agentsIn) (agentBy (setIn k) a)) → (i : ℕ) → P i (agentAt scoreIn i)
+  pub on-plain-agents : LawfulDraft d → (P : ℕ → Agent → Type 0) → ((i : ℕ) → P i Skip) → ((k : ℕ) → List·Memᴰ k agentsIn → (a : Agent) → draftAgentAt d (numberIn k) ≡ Plain a → P (indexOf k agentsIn) (agentBy (setIn k) a)) → (i : ℕ) → P i (agentAt scoreIn i)
   on-plain-agents law P past each i = by-cases (decLt i (length agentsIn)) listed (λ h. subst⁻¹ (P i) (List·getD-eq-default (scoreIn .agents) Skip (omega (arith, agents-length))) (past i))
     where
       listed : i < length agentsIn → P i (agentAt scoreIn i)

@@ -26,9 +26,9 @@ use Rattle.laws.proofs.Rising.{rising-append, rising-images, below-rising}
 use Rattle.tcc.specs.Score.{agentAt, tokensOf, partsOf, proceduresOf}
 use Rattle.tcc.specs.declared.Agent.{Agent}
 use Rattle.tcc.specs.declared.Agent.the-variants.{Skip, Abort, Tell, Parallel, When, Next, Unless, Call}
-use Rattle.draft_language.specs.Draft.{Draft, writtenAt, rootOf, asWhen, whens, LawfulDraft}
-use Rattle.draft_language.specs.declared.Written.{Written}
-use Rattle.draft_language.specs.declared.Written.the-variants.{Plain, Watch}
+use Rattle.draft_language.specs.Draft.{Draft, draftAgentAt, rootOf, asWhen, whens, LawfulDraft}
+use Rattle.draft_language.specs.declared.DraftAgent.{DraftAgent}
+use Rattle.draft_language.specs.declared.DraftAgent.the-variants.{Plain, Watch}
 use Rattle.draft_pairs.specs.Pairs.{pair, numberIn, setIn, indexOf}
 use Rattle.draft_plain.specs.Places.{procedureAt, target, agentLeads, leadsTo, places, agentPlaces, procedurePlaces}
 use Rattle.draft_pairs.specs.TokenSets.{several}
@@ -119,15 +119,15 @@ module _ (d : Draft) (law : LawfulDraft d) (plainly : WithoutWatches d) where
   abbrev procedurePairs : List ℕ
   procedurePairs = bareProcedures (length (d .roots))
 
-  written-plain : (i : ℕ) → writtenAt d i ≡ Plain (asWhen (writtenAt d i))
-  written-plain i = go (writtenAt d i) refl
+  written-plain : (i : ℕ) → draftAgentAt d i ≡ Plain (asWhen (draftAgentAt d i))
+  written-plain i = go (draftAgentAt d i) refl
     where
-      go : (w : Written) → writtenAt d i ≡ w → w ≡ Plain (asWhen w)
+      go : (w : DraftAgent) → draftAgentAt d i ≡ w → w ≡ Plain (asWhen w)
       go (Plain a) e = refl
       go (Watch t b) e = absurd (plainly i t b e)
 
   target-bare : (i : ℕ) → target d i 0 ≡ pair i 0
-  target-bare i = target-plain d i 0 (asWhen (writtenAt d i)) (written-plain i)
+  target-bare i = target-plain d i 0 (asWhen (draftAgentAt d i)) (written-plain i)
 
   abbrev There : ℕ → Type 0
   There k = List·Memᴰ k (agentPairs ++ procedurePairs)
@@ -143,7 +143,7 @@ module _ (d : Draft) (law : LawfulDraft d) (plainly : WithoutWatches d) where
 
   module _ (i : ℕ) (h : i < length (d .agents)) where
     abbrev written : Agent
-    written = asWhen (writtenAt d i)
+    written = asWhen (draftAgentAt d i)
 
     part-known : Within (λ b. b < length (d .agents)) (partsOf written)
     part-known b m = omega (arith, written-parts d law i (written-plain i) b m)
@@ -156,7 +156,7 @@ module _ (d : Draft) (law : LawfulDraft d) (plainly : WithoutWatches d) where
 
     agent-leads : leadsTo d (pair i 0) ≡ agentLeads d 0 (Plain written)
     agent-leads =
-        leads-agent d (pair i 0) (omega (arith, bare-number i, draft-agents d law)) (ap (writtenAt d) (bare-number i) ∙ written-plain i)
+        leads-agent d (pair i 0) (omega (arith, bare-number i, draft-agents d law)) (ap (draftAgentAt d) (bare-number i) ∙ written-plain i)
         ∙ ap (λ set. agentLeads d set (Plain written)) (bare-set i)
 
     agent-closed : Among (leadsTo d (pair i 0)) (agentPairs ++ procedurePairs)
@@ -226,8 +226,8 @@ module _ (d : Draft) (law : LawfulDraft d) (plainly : WithoutWatches d) where
   agent-kept (Call p) tokens parts procedures = ap Call (procedure-index p (procedures p (List·Memᴰ·head refl)))
 
   -- the agent of a pair under no token
-  agent-bare : (i : ℕ) → agentIn d (pair i 0) ≡ asWhen (writtenAt d i)
-  agent-bare i = ap (λ n. asWhen (writtenAt d n)) (bare-number i)
+  agent-bare : (i : ℕ) → agentIn d (pair i 0) ≡ asWhen (draftAgentAt d i)
+  agent-bare i = ap (λ n. asWhen (draftAgentAt d n)) (bare-number i)
 
   agents-kept : map (λ k. plainAgent d agentPairs procedurePairs [] (setIn k) (agentIn d k)) agentPairs ≡ whens d .agents
   agents-kept = mapped (λ k. plainAgent d agentPairs procedurePairs [] (setIn k) (agentIn d k)) (λ i. pair i 0) (length (d .agents)) (whens d .agents) Skip (length-map (d .agents) asWhen) each

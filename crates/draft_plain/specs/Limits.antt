@@ -15,8 +15,8 @@ use lib.ListN.{length}
 use Rattle.tcc.specs.Limits.{mostTokens, mostAgents, mostProcedures, mostRules}
 use Rattle.tcc.specs.declared.Agent.{Agent}
 use Rattle.tcc.specs.declared.Agent.the-variants.{Next, Unless}
-use Rattle.draft_language.specs.Draft.{Draft, writtenAt, LawfulDraft}
-use Rattle.draft_language.specs.declared.Written.the-variants.{Plain}
+use Rattle.draft_language.specs.Draft.{Draft, draftAgentAt, LawfulDraft}
+use Rattle.draft_language.specs.declared.DraftAgent.the-variants.{Plain}
 use Rattle.draft_pairs.specs.TokenSets.{holds, with, several}
 use Rattle.draft_plain.specs.Stands.{Place, agent, procedure, Stands}
 use Rattle.draft_plain.specs.Plain.{plainOf, fits}
@@ -32,14 +32,14 @@ pub record MoreThan {A : Type 0} (n : ℕ) (before : ℕ) (Is : A → Type 0) : 
   pub many : n < before + length those
 
 abbrev pub AgentPair : Draft → Place → Type 0
-AgentPair d x = (i : ℕ) × (set : ℕ) × (a : Agent) × (x ≡ agent i set) × (writtenAt d i ≡ Plain a) × Stands d x
+AgentPair d x = (i : ℕ) × (set : ℕ) × (a : Agent) × (x ≡ agent i set) × (draftAgentAt d i ≡ Plain a) × Stands d x
 
 abbrev pub ProcedurePair : Draft → Place → Type 0
 ProcedurePair d x = (p : ℕ) × (set : ℕ) × (x ≡ procedure p set) × Stands d x
 
 pub data Asked (d : Draft) : ℕ → Type 0 where
-  by-next : {i b set : ℕ} → Stands d (agent i set) → writtenAt d i ≡ Plain (Next b) → several set ≡ true → Asked d set
-  by-unless : {i t b set : ℕ} → Stands d (agent i set) → writtenAt d i ≡ Plain (Unless t b) → several (with t set) ≡ true → Asked d (with t set)
+  by-next : {i b set : ℕ} → Stands d (agent i set) → draftAgentAt d i ≡ Plain (Next b) → several set ≡ true → Asked d set
+  by-unless : {i t b set : ℕ} → Stands d (agent i set) → draftAgentAt d i ≡ Plain (Unless t b) → several (with t set) ≡ true → Asked d (with t set)
 
 pub record Asking : Type 0 where
   pub set : ℕ

@@ -10,7 +10,7 @@
 --     fits           T, N, P and the rules pass no limit
 use mathlib.Core.Bool.{Bool, cond, _&&_}
 use mathlib.Core.List.{List, [], _∷_, _++_, map}
-use Prim.Native.Nat.{ℕ, zero, suc, _+_, _-_}
+use Prim.Native.Nat.{ℕ, suc, _+_, _-_}
 use lib.Dec.{eqb, leb}
 use lib.ListN.{length, getD}
 use Rattle.laws.specs.Sets.{keep}
@@ -19,7 +19,7 @@ use Rattle.tcc.specs.Closure.{Rule}
 use Rattle.tcc.specs.Score.{Score}
 use Rattle.tcc.specs.declared.Agent.{Agent}
 use Rattle.tcc.specs.declared.Agent.the-variants.{Skip, Abort, Tell, Parallel, When, Next, Unless, Call}
-use Rattle.draft_language.specs.Draft.{Draft, writtenAt, rootOf, asWhen}
+use Rattle.draft_language.specs.Draft.{Draft, draftAgentAt, rootOf, asWhen}
 use Rattle.draft_pairs.specs.TokenSets.{with, members, several}
 use Rattle.draft_pairs.specs.Pairs.{pair, numberIn, setIn, insertAll, indexOf}
 use Rattle.draft_plain.specs.Places.{procedureAt, target, places, agentPlaces, procedurePlaces}
@@ -36,7 +36,7 @@ asksFor set (Call p) = []
 
 -- the agent of a pair: no pair has a watch
 abbrev pub agentIn : Draft → ℕ → Agent
-agentIn d k = asWhen (writtenAt d (numberIn k))
+agentIn d k = asWhen (draftAgentAt d (numberIn k))
 
 abbrev pub allAsked : Draft → List ℕ → List ℕ
 allAsked d [] = []

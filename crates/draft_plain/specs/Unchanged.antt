@@ -9,8 +9,8 @@ use mathlib.Core.Bool.{true}
 use Prim.Native.Nat.{ℕ, _<_}
 use lib.ListN.{length}
 use Rattle.tcc.specs.Lawful.{Lawful}
-use Rattle.draft_language.specs.Draft.{Draft, writtenAt, whens, LawfulDraft}
-use Rattle.draft_language.specs.declared.Written.the-variants.{Watch}
+use Rattle.draft_language.specs.Draft.{Draft, draftAgentAt, whens, LawfulDraft}
+use Rattle.draft_language.specs.declared.DraftAgent.the-variants.{Watch}
 use Rattle.draft_plain.specs.Stands.{Stands, agent, procedure}
 use Rattle.draft_plain.specs.Plain.{plainOf, fits}
 
@@ -18,7 +18,7 @@ abbrev pub PlainLawful : Type 0
 PlainLawful = (d : Draft) → LawfulDraft d → fits (plainOf d) ≡ true → Lawful (plainOf d)
 
 abbrev pub WithoutWatches : Draft → Type 0
-WithoutWatches d = (i t b : ℕ) → writtenAt d i ≡ Watch t b → ⊥
+WithoutWatches d = (i t b : ℕ) → draftAgentAt d i ≡ Watch t b → ⊥
 
 pub record AllOnPaths (d : Draft) : Type 0 where
   pub agents-on : (i : ℕ) → i < length (d .agents) → Stands d (agent i 0)

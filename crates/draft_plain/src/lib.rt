@@ -10,5 +10,5 @@ pub enum Reply {
     // The plain score passes a size limit.
     Large,
     // How many bytes the plain score has.
-    Written(usize),
+    Translated(usize),
 }

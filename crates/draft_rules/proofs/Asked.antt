@@ -12,15 +12,15 @@ use Rattle.laws.proofs.Lists.{entry-member}
 use Rattle.draft_pairs.specs.TokenSets.{members}
 use Rattle.draft_pairs.specs.Pairs.{setIn}
 use Rattle.draft_pairs.proofs.TokenSets.{member-holds}
-use Rattle.draft_row.specs.Rows.{rowValue}
-use Rattle.draft_row.proofs.Rows.{members-set}
+use Rattle.draft_pairs.specs.Rows.{rowValue}
+use Rattle.draft_pairs.proofs.Rows.{members-set}
 use Rattle.draft_table.proofs.Tables.{keys-length, keys-at}
 use Rattle.draft_plain.specs.Plain.{plainOf}
 use Rattle.draft_plain.proofs.PlainScore.{fits-sizes}
 use Rattle.draft_plain.proofs.AskedLaws.{asked-known}
 use Rattle.draft_format.specs.DraftFile.{decodeDraft}
-use Rattle.draft_counts.specs.declared.Counts.{Counts}
-use Rattle.draft_counts.specs.Gathered.{Gathered, setsIn}
+use Rattle.draft_gathering.specs.declared.Counts.{Counts}
+use Rattle.draft_gathering.specs.Gathered.{Gathered, setsIn}
 
 module _ {s : List ℕ} {n : Counts} {table sets : List (List ℕ)} (g : Gathered s n table sets) where
   tokens-read : decodeDraft s .tokens ≡ n .tokens

@@ -20,8 +20,8 @@ use Rattle.encoding.proofs.ReadWords.{rule-again}
 use Rattle.draft_format.specs.DraftFile.{asWhens, draftVerdict, decodeDraft}
 use Rattle.draft_format.proofs.AsWhens.{as-whens-length}
 use Rattle.draft_format.proofs.Draft.{words-kept, sizes-as-whens, accepted-whole}
-use Rattle.draft_counts.specs.declared.Counts.{Counts}
-use Rattle.draft_counts.specs.Gathered.{Gathered}
+use Rattle.draft_gathering.specs.declared.Counts.{Counts}
+use Rattle.draft_gathering.specs.Gathered.{Gathered}
 
 -- word j from a word on is that of rule j
 abbrev WordsFrom : List ℕ → ℕ → Type 0

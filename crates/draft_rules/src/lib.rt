@@ -7,15 +7,15 @@ ghost use Rattle.tcc.specs.Limits.{mostTokens};
 ghost use Rattle.format.specs.Limits.{mostBytes};
 ghost use Rattle.draft_pairs.specs.TokenSets.{members};
 ghost use Rattle.draft_pairs.specs.Pairs.{setIn};
-ghost use Rattle.draft_row.specs.Rows.{rowValue};
+ghost use Rattle.draft_pairs.specs.Rows.{rowValue};
 ghost use Rattle.draft_plain.specs.Plain.{memberRules};
 ghost use Rattle.encoding.specs.Encode.{ruleWord};
 ghost use Rattle.bits.specs.Put.{put};
 ghost use Rattle.draft_format.specs.DraftFile.{decodeDraft};
-ghost use Rattle.draft_counts.specs.Gathered.{Gathered, setsIn};
+ghost use Rattle.draft_gathering.specs.Gathered.{Gathered, setsIn};
 ghost use Rattle.draft_rules.specs.SetRules.{setRules};
-use draft_counts::Counts;
-use draft_row::Row;
+use draft_gathering::Counts;
+use draft_pairs::Row;
 use draft_table::Table;
 
 // Copies the words of the rules.
@@ -73,7 +73,7 @@ fn put_set(plain: &mut [u8], from: usize, set: Row, tokens: usize, conclusion: u
     while t < tokens {
         let token = t;
         t += 1;
-        if draft_row::has_token(set, token) {
+        if draft_pairs::has_token(set, token) {
             let w = encoding::member_word(conclusion, token);
             bits::put_word(plain, at, w);
             at += 1;

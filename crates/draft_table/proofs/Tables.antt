@@ -28,7 +28,7 @@ use Rattle.laws.specs.Rising.{Rising, none, one, more}
 use Rattle.laws.proofs.Lists.{entry-member, map-at}
 use Rattle.draft_pairs.specs.Pairs.{insert, indexOf}
 use Rattle.draft_pairs.proofs.Rising.{index-below, index-at, insert-present, insert-longer}
-use Rattle.draft_row.specs.Rows.{rowValue}
+use Rattle.draft_pairs.specs.Rows.{rowValue}
 use Rattle.draft_table.specs.Tables.{keys, Placed, Entered, RoomMade}
 
 rising-next : {k : ℕ} {l : List ℕ} → Rising (k ∷ l) → (j : ℕ) → j < length l → k < getD l j 0

@@ -8,7 +8,7 @@ use mathlib.Core.List.{List, [], map, List·Memᴰ}
 use Prim.Native.Nat.{ℕ, _+_, _<_, _≤_}
 use lib.ListN.{length, take, getD}
 use Rattle.draft_pairs.specs.Pairs.{mostPairs, insert}
-use Rattle.draft_row.specs.Rows.{rowValue}
+use Rattle.draft_pairs.specs.Rows.{rowValue}
 
 abbrev pub keys : ℕ → List (List ℕ) → List ℕ
 keys count table = map rowValue (take count table)

@@ -4,9 +4,9 @@ ghost use Prim.Native.Nat.{_+_, _<_, _≤_};
 ghost use lib.ListN.{length};
 ghost use Rattle.laws.specs.Rising.{Rising};
 ghost use Rattle.draft_pairs.specs.Pairs.{mostPairs};
-ghost use Rattle.draft_row.specs.Rows.{rowValue};
+ghost use Rattle.draft_pairs.specs.Rows.{rowValue};
 ghost use Rattle.draft_table.specs.Tables.{keys, Placed, Entered, RoomMade};
-use draft_row::Row;
+use draft_pairs::Row;
 
 // Pairs in rising order, each once; those in use come first.
 pub type Table = [Row; MOST];
@@ -28,7 +28,7 @@ pub fn place(table: &Table, count: usize, row: Row) -> usize
     let mut high = count;
     while low < high {
         let middle = low + (high - low) / 2;
-        if draft_row::is_before(table[middle], row) {
+        if draft_pairs::is_before(table[middle], row) {
             low = middle + 1;
         } else {
             high = middle;
@@ -47,7 +47,7 @@ pub fn enter(table: &mut Table, count: usize, row: Row) -> usize
 {
     let at = place(table, count, row);
     if at < count {
-        if !draft_row::is_before(row, table[at]) {
+        if !draft_pairs::is_before(row, table[at]) {
             return count;
         }
     }

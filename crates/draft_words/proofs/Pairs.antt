@@ -24,7 +24,7 @@ use Rattle.words.specs.Word.{words}
 use Rattle.format.specs.Decode.{decode, sizes}
 use Rattle.draft_language.specs.Draft.{Draft, rootOf, asWhen}
 use Rattle.draft_pairs.specs.Pairs.{numberIn, setIn}
-use Rattle.draft_row.specs.Rows.{rowValue}
+use Rattle.draft_pairs.specs.Rows.{rowValue}
 use Rattle.draft_table.proofs.Tables.{keys-length, keys-at}
 use Rattle.draft_plain.specs.Places.{target, places}
 use Rattle.draft_plain.specs.Plain.{agentIn, plainOf}
@@ -34,9 +34,9 @@ use Rattle.draft_plain.proofs.PlainScore.{agentBy, rootBy, fits-sizes, places-f
 use Rattle.draft_plain.proofs.PlainLawful.{plain-lawful}
 use Rattle.draft_format.specs.DraftFile.{decodeDraft}
 use Rattle.draft_format.proofs.Draft.{accepted-whole}
-use Rattle.draft_counts.specs.declared.Counts.{Counts}
-use Rattle.draft_counts.specs.Gathered.{Gathered, agentsIn, proceduresIn}
-use Rattle.draft_agents.proofs.Standing.{kinds-split}
+use Rattle.draft_gathering.specs.declared.Counts.{Counts}
+use Rattle.draft_gathering.specs.Gathered.{Gathered, agentsIn, proceduresIn}
+use Rattle.draft_words.proofs.Standing.{kinds-split}
 
 pub record AgentFits (a : Agent) : Type 0 where
   pub tokens : Within (λ t. t < 256) (tokensOf a)

@@ -1,4 +1,6 @@
-// The agents and procedures of a plain score, written.
+// The agents (`agents`) and procedures of a plain score, written.
+pub mod agents;
+
 ghost use mathlib.Core.Path.{_≡_};
 ghost use mathlib.Core.List.{map, List·Memᴰ};
 ghost use Prim.Native.Nat.{_+_, _*_, _-_, _≤_};
@@ -6,15 +8,15 @@ ghost use lib.ListN.{length};
 ghost use Rattle.tcc.specs.Limits.{mostAgents};
 ghost use Rattle.draft_language.specs.Draft.{rootOf};
 ghost use Rattle.draft_pairs.specs.Pairs.{numberIn, setIn, indexOf};
-ghost use Rattle.draft_row.specs.Rows.{rowValue};
+ghost use Rattle.draft_pairs.specs.Rows.{rowValue};
 ghost use Rattle.draft_plain.specs.Places as places;
 ghost use Rattle.draft_plain.specs.Plain.{plainOf};
 ghost use Rattle.encoding.specs.Encode.{agentWord, rootWord};
 ghost use Rattle.bits.specs.Put.{put};
 ghost use Rattle.draft_format.specs.DraftFile.{decodeDraft};
-ghost use Rattle.draft_counts.specs.Gathered.{Gathered, agentsIn, proceduresIn};
-use draft_counts::Counts;
-use draft_row::Row;
+ghost use Rattle.draft_gathering.specs.Gathered.{Gathered, agentsIn, proceduresIn};
+use draft_gathering::Counts;
+use draft_pairs::Row;
 use draft_table::Table;
 
 // Writes the words of the agents.
@@ -25,7 +27,7 @@ pub fn put_agents(plain: &mut [u8], draft: &[u8], table: &Table, sets: &Table, n
 {
     let mut k = 0;
     while k < n.copied {
-        let w = encoding::agent_word(draft_agents::plain_agent(draft, table, sets, n, table[k]));
+        let w = encoding::agent_word(agents::plain_agent(draft, table, sets, n, table[k]));
         bits::put_word(plain, 2 + k, w);
         k += 1;
     }
@@ -56,7 +58,7 @@ fn root_at(draft: &[u8], table: &Table, sets: &Table, n: Counts, row: Row) -> us
     let root = format::root_of(
         draft,
         n.agents,
-        draft_row::number_of(row) - draft_table::PROCEDURES,
+        draft_pairs::number_of(row) - draft_table::PROCEDURES,
     );
-    draft_agents::stands_at(draft, table, sets, n, row, root)
+    agents::stands_at(draft, table, sets, n, row, root)
 }

@@ -4,6 +4,6 @@ pub mod WrittenWords
 pub mod ReadWords
 pub mod Bytes
 pub mod Lists
-pub mod Places
-pub mod Written
+pub mod WordVerdicts
+pub mod DecodesBack
 pub mod ReadBack

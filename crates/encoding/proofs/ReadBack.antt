@@ -29,7 +29,7 @@ use Rattle.encoding.specs.Encode.{headWord, agentWord, rootWord, ruleWor
 use Rattle.encoding.proofs.ReadWords.{head-again, ports-again, agent-again, root-again, rule-again}
 use Rattle.encoding.proofs.Bytes.{words-small, bytes-words}
 use Rattle.encoding.proofs.Lists.{on-rest, on-part, place-member, map-back, parts-whole}
-use Rattle.encoding.proofs.Places.{agent-place, root-place, at-formed, agent-formed}
+use Rattle.encoding.proofs.WordVerdicts.{agent-place, root-place, at-formed, agent-formed}
 
 head-passed : (b : Bool) → cond b Accepted Head ≡ Accepted → b ≡ true
 head-passed true e = refl

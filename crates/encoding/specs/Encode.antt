@@ -3,7 +3,7 @@
 --     scoreWords        head, ports, agents, procedures, rules
 --     scoreBytes        their bytes
 --     RuleFormed        a rule that a word can say: no premise, or two
---     Written           the bytes of a lawful score of such rules are accepted, and stand for that score
+--     DecodesBack       the bytes of a lawful score of such rules are accepted, and stand for that score
 --     ReadBack          an accepted score's bytes are those of the score that they stand for
 use mathlib.Core.Path.{_≡_}
 use mathlib.Core.List.{List, [], _∷_, _++_, map, List·Memᴰ}
@@ -60,8 +60,8 @@ scoreBytes sc = bytesOf (scoreWords sc)
 abbrev pub RuleFormed : Rule ℕ → Type 0
 RuleFormed r = (r .premises ≡ []) ⊎ ((p : ℕ) × (q : ℕ) × (r .premises ≡ p ∷ q ∷ []))
 
-abbrev pub Written : Type 0
-Written =
+abbrev pub DecodesBack : Type 0
+DecodesBack =
     (sc : Score) → Lawful sc → ((r : Rule ℕ) → List·Memᴰ r (sc .rules) → RuleFormed r) →
     (verdict (scoreBytes sc) ≡ Accepted) × (decode (scoreBytes sc) ≡ sc)
 

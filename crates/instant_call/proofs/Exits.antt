@@ -14,7 +14,7 @@ use Rattle.tcc.specs.Score.{Score}
 use Rattle.tcc.specs.Instant.{Answer, output, answer, after}
 use Rattle.format.specs.Decode.{sizes, decode}
 use Rattle.check_verdicts.specs.declared.Verdict.{Verdict}
-use Rattle.check_verdicts.specs.Verdicts.{numberOf}
+use Rattle.check_verdicts.specs.Verdicts.{verdictNumber}
 use Rattle.check_score.specs.Check.{verdict}
 use Rattle.check_score.proofs.Stages.{passed}
 use Rattle.check_score.proofs.Stages as stages
@@ -28,16 +28,16 @@ use Rattle.lent.proofs.Lengths.{right}
 use Rattle.lent_maps.specs.Maps.{tokensIn, mapOf}
 use Rattle.instant_state.proofs.Inside.{Inside}
 use Rattle.instant_buffers.specs.HandedOver.{HandedOver}
-use Rattle.instant_buffers.proofs.Written.{state-written, store-written, output-written}
+use Rattle.instant_buffers.proofs.AnswerBytes.{state-written, store-written, output-written}
 use Rattle.instant_call.specs.declared.Reply.the-variants.{Score as Turned, Lengths, State, Input, Last, Settled}
 use Rattle.instant_call.specs.InstantCall.{Lent, Exit, lengthFault, tokenFault, kept, answered, exit, lent, played}
 
 module _ (score given : List ℕ) (l : Lent) where
-  pub turned : {v : Verdict} {n : ℕ} → n ≡ numberOf v → v ≡ verdict score → (n ≡ 0 → ⊥) → kept l (Turned v) ≡ exit score given l
+  pub turned : {v : Verdict} {n : ℕ} → n ≡ verdictNumber v → v ≡ verdict score → (n ≡ 0 → ⊥) → kept l (Turned v) ≡ exit score given l
   unfolding exit
   turned number-is is not-zero = stages.turned score number-is is (λ v. kept l (Turned v)) _ not-zero
 
-  module _ (accepted : numberOf (verdict score) ≡ 0) where
+  module _ (accepted : verdictNumber (verdict score) ≡ 0) where
     pub lengths : lengthFault given l ≡ true → kept l Lengths ≡ exit score given l
     unfolding exit
     lengths e = passed score accepted _ (cond-true _ e refl)

@@ -18,7 +18,7 @@ use Rattle.laws.specs.Sets.{any}
 use Rattle.tcc.specs.Score.{Score}
 use Rattle.tcc.specs.Instant.{Answer, count, output, answer, after}
 use Rattle.format.specs.Decode.{sizes, decode}
-use Rattle.check_verdicts.specs.Verdicts.{numberOf}
+use Rattle.check_verdicts.specs.Verdicts.{verdictNumber}
 use Rattle.check_score.specs.Check.{verdict}
 use Rattle.lent.specs.Lengths.{stateBytes, mapBytes, scratchBytes, noScratch}
 use Rattle.lent.specs.States.{stateFault, stateOf, asBytes, nextBytes, atLast}
@@ -66,7 +66,7 @@ played score l a = cond (stateFault (sizes score .agents) (asBytes (after a))) (
 
 unfoldable pub exit : List ℕ → List ℕ → Lent → Exit
 exit score input l =
-    cond (not (eqb (numberOf (verdict score)) 0)) (kept l (Turned (verdict score)))
+    cond (not (eqb (verdictNumber (verdict score)) 0)) (kept l (Turned (verdict score)))
     (cond (lengthFault input l) (kept l Lengths)
     (cond (stateFault (sizes score .agents) (l .state)) (kept l State)
     (cond (tokenFault score input) (kept l Input)

@@ -23,9 +23,9 @@ use Rattle.tcc.specs.Score.{Score, agentAt}
 use Rattle.tcc.specs.Instant.{reducible, reducedOf}
 use Rattle.bits.specs.Bits.{bitAt, bitsValue, bytesOf}
 use Rattle.bits.proofs.Bits.{bitsValue-bit, bit-none}
-use Rattle.bits.proofs.Bytes.{Written, bytesOf-length, written-more}
+use Rattle.bits.proofs.Bytes.{putFront, bytesOf-length, put-front-more}
 use Rattle.bits.proofs.Filled.{has-kept}
-use Rattle.bits.proofs.WordBits.{written-beyond, written-bit}
+use Rattle.bits.proofs.WordBits.{put-front-beyond, put-front-bit}
 use Rattle.lent.specs.Lengths.{scratchBytes, noScratch}
 use Rattle.lent.specs.Scratch.{reducedIn}
 use Rattle.instant_count.proofs.Tallying.{bitIn}
@@ -53,7 +53,7 @@ module _ (sc : Score) (live held : List ℕ) where
   wordsTo-length k = length-map (below k) wordOf ∙ below-length k
 
   unfoldable pub Marked : ℕ → List ℕ → Type 0
-  Marked k scratch = scratch ≡ Written (wordsTo k) noScratch
+  Marked k scratch = scratch ≡ putFront (wordsTo k) noScratch
 
   pub marked-none : (scratch : List ℕ) → scratch ≡ noScratch → Marked 0 scratch
   unfolding Marked bytesOf
@@ -64,9 +64,9 @@ module _ (sc : Score) (live held : List ℕ) where
   marked-more k w scratch scratch′ m e p =
       p
       ∙ ap₂ (λ x y. take (4 * k) x ++ bytesOf (y ∷ []) ++ drop (4 * k + 4) x) m e
-      ∙ written-more (wordsTo k) (wordOf k) k noScratch (wordsTo-length k)
-      ∙ ap (λ l. Written l noScratch) (sym (map-snoc wordOf (below k) k))
-      ∙ ap (λ n. Written (wordsTo n) noScratch) (sym (add-one k))
+      ∙ put-front-more (wordsTo k) (wordOf k) k noScratch (wordsTo-length k)
+      ∙ ap (λ l. putFront l noScratch) (sym (map-snoc wordOf (below k) k))
+      ∙ ap (λ n. putFront (wordsTo n) noScratch) (sym (add-one k))
 
   module _ (k : ℕ) (scratch : List ℕ) (m : Marked k scratch) where
     pub marked-long : k ≤ 32 → length scratch ≡ scratchBytes
@@ -75,12 +75,12 @@ module _ (sc : Score) (live held : List ℕ) where
 
     pub marked-unset : (i : ℕ) → 4 * k ≤ i → getD scratch i 0 ≡ 0
     unfolding Marked
-    marked-unset i h = ap (λ s. getD s i 0) m ∙ written-beyond (wordsTo k) noScratch no-bytes i (omega (arith, wordsTo-length k))
+    marked-unset i h = ap (λ s. getD s i 0) m ∙ put-front-beyond (wordsTo k) noScratch no-bytes i (omega (arith, wordsTo-length k))
 
     module _ (all : length (sc .agents) ≤ 32 * k) where
       bit : (i : ℕ) → bitIn scratch i ≡ has i reduced
       unfolding Marked
-      bit i = ap (λ s. bitIn s i) m ∙ written-bit (wordsTo k) noScratch no-bytes i ∙ by-cases (decLt (i / 32) k)
+      bit i = ap (λ s. bitIn s i) m ∙ put-front-bit (wordsTo k) noScratch no-bytes i ∙ by-cases (decLt (i / 32) k)
           (λ l.
           let e : 32 * (i / 32) + i % 32 ≡ i = omega arith in
           ap (λ w. bitAt w (i % 32)) (map-at wordOf (below k) (i / 32) 0 0 (omega (arith, below-length k)) ∙ ap wordOf (below-at k (i / 32) l))

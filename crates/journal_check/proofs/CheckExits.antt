@@ -9,7 +9,7 @@ use lib.ListN.{length}
 use Rattle.laws.proofs.Booleans.{cond-true, cond-false}
 use Rattle.format.specs.Decode.{sizes}
 use Rattle.check_verdicts.specs.declared.Verdict.{Verdict}
-use Rattle.check_verdicts.specs.Verdicts.{numberOf}
+use Rattle.check_verdicts.specs.Verdicts.{verdictNumber}
 use Rattle.check_score.specs.Check.{verdict}
 use Rattle.check_score.proofs.Stages.{passed}
 use Rattle.check_score.proofs.Stages as stages
@@ -24,11 +24,11 @@ use Rattle.journal_step.proofs.ByForm.{by-form}
 use Rattle.journal_check.specs.JournalCheckCall.{Exit, left, checked, exit}
 
 module _ (score journal scratch : List ℕ) where
-  pub turned : {v : Verdict} {n : ℕ} → n ≡ numberOf v → v ≡ verdict score → (n ≡ 0 → ⊥) → left scratch (Turned v) ≡ exit score journal scratch
+  pub turned : {v : Verdict} {n : ℕ} → n ≡ verdictNumber v → v ≡ verdict score → (n ≡ 0 → ⊥) → left scratch (Turned v) ≡ exit score journal scratch
   unfolding exit
   turned number-is is not-zero = stages.turned score number-is is (λ v. left scratch (Turned v)) _ not-zero
 
-  module _ (accepted : numberOf (verdict score) ≡ 0) where
+  module _ (accepted : verdictNumber (verdict score) ≡ 0) where
     pub lengths : (length scratch ≡ scratchBytes → ⊥) → left scratch Lengths ≡ exit score journal scratch
     unfolding exit
     lengths n = passed score accepted _ (cond-true _ (ap not (ne-eqb (length scratch) scratchBytes n)) refl)

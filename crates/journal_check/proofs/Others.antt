@@ -17,7 +17,7 @@ use Rattle.laws.proofs.Booleans.{true-is-false, neither}
 use Rattle.words.specs.Word.{field}
 use Rattle.flags.specs.Flags.{setOf, flagsOf}
 use Rattle.flags.proofs.Flags.{flags-settled}
-use Rattle.journal_form.specs.Form.{statusOf}
+use Rattle.journal_form.specs.Form.{statusIn}
 use Rattle.journal_instants.specs.Instants.{tokensOf, inputsIn}
 use Rattle.journal_words.specs.History.{instantWords, RisingBelow}
 use Rattle.journal_words.specs.Formed.{Formed}
@@ -71,7 +71,7 @@ formed-wide T few f = record {
   outputs = rising-within (f .outputs) (λ t m. let h : t < T = f .outputs .below t m in omega arith);
 }
 
-status-back : (s : ℕ) (inputs outputs : List ℕ) → s < 3 → statusOf (getD (instantWords s inputs outputs) 0 0) ≡ s
+status-back : (s : ℕ) (inputs outputs : List ℕ) → s < 3 → statusIn (getD (instantWords s inputs outputs) 0 0) ≡ s
 unfolding instantWords field
 status-back s inputs outputs h = omega arith
 
@@ -83,8 +83,8 @@ module _ (ws : List ℕ) (f : Formed 256 ws) (status : ℕ) (small : status < 3)
   out-rising = rising-within (flags-rising out) (λ t m. let h : t < length out = flags-rising out .below t m in omega arith)
 
   -- what equal words have in common
-  status-same : ws ≡ written → statusOf (getD ws 0 0) ≡ status
-  status-same e = ap (λ l. statusOf (getD l 0 0)) e ∙ status-back status (inputsIn ws) (setOf out) small
+  status-same : ws ≡ written → statusIn (getD ws 0 0) ≡ status
+  status-same e = ap (λ l. statusIn (getD l 0 0)) e ∙ status-back status (inputsIn ws) (setOf out) small
 
   outputs-same : ws ≡ written → flagsOf 256 (tokensOf 14 ws) ≡ out
   outputs-same e =
@@ -92,10 +92,10 @@ module _ (ws : List ℕ) (f : Formed 256 ws) (status : ℕ) (small : status < 3)
       ∙ ap (flagsOf 256) (words-outputs 256 (omega arith) status (inputsIn ws) (setOf out) small (f .inputs) out-rising)
       ∙ sym (flags-settled 256 (setOf out) out long (λ i h. (λ m. m, λ m. m)))
 
-  words-same : statusOf (getD ws 0 0) ≡ status → flagsOf 256 (tokensOf 14 ws) ≡ out → ws ≡ written
+  words-same : statusIn (getD ws 0 0) ≡ status → flagsOf 256 (tokensOf 14 ws) ≡ out → ws ≡ written
   words-same s o = f .is ∙ ap₂ (λ x l. instantWords x (inputsIn ws) l) s (sym (rising-set 256 256 (tokensOf 14 ws) (omega arith) (f .outputs)) ∙ ap setOf o)
 
-  pub differ-so : (n : ℕ) (other : Bool) → n ≡ statusOf (getD ws 0 0) → (other ≡ false → flagsOf 256 (tokensOf 14 ws) ≡ out) × (flagsOf 256 (tokensOf 14 ws) ≡ out → other ≡ false) →
+  pub differ-so : (n : ℕ) (other : Bool) → n ≡ statusIn (getD ws 0 0) → (other ≡ false → flagsOf 256 (tokensOf 14 ws) ≡ out) × (flagsOf 256 (tokensOf 14 ws) ≡ out → other ≡ false) →
       (not (eqb n status) || other) ≡ not (same ws written)
   differ-so n other is o = go (same ws written) refl (not (eqb n status) || other) refl
     where
@@ -103,5 +103,5 @@ module _ (ws : List ℕ) (f : Formed 256 ws) (status : ℕ) (small : status < 3)
       go true e x r = let w = same-equal ws written e in or-none (ap not (eq-eqb n status (is ∙ status-same w))) (o .1 (outputs-same w))
       go false e true r = r
       go false e false r =
-          let s : statusOf (getD ws 0 0) ≡ status = sym is ∙ eqb-true n status (not-false (eqb n status) (neither (not (eqb n status)) other r .0)) in
+          let s : statusIn (getD ws 0 0) ≡ status = sym is ∙ eqb-true n status (not-false (eqb n status) (neither (not (eqb n status)) other r .0)) in
           absurd (true-is-false (ap (same ws) (sym (words-same s (o .0 (neither (not (eqb n status)) other r .1)))) ∙ same-itself ws) e)

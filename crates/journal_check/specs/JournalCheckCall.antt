@@ -13,7 +13,7 @@ use lib.Dec.{eqb}
 use lib.ListN.{length}
 use Rattle.words.specs.Word.{words}
 use Rattle.format.specs.Decode.{sizes, decode}
-use Rattle.check_verdicts.specs.Verdicts.{numberOf}
+use Rattle.check_verdicts.specs.Verdicts.{verdictNumber}
 use Rattle.check_score.specs.Check.{verdict}
 use Rattle.lent.specs.Lengths.{scratchBytes, noScratch}
 use Rattle.lent.specs.States.{startBytes}
@@ -36,7 +36,7 @@ checked score journal = checkFrom score (startBytes (decode score)) 0 (instantsI
 
 unfoldable pub exit : List ℕ → List ℕ → List ℕ → Exit
 exit score journal scratch =
-    cond (not (eqb (numberOf (verdict score)) 0)) (left scratch (Turned (verdict score)))
+    cond (not (eqb (verdictNumber (verdict score)) 0)) (left scratch (Turned (verdict score)))
     (cond (not (eqb (length scratch) scratchBytes)) (left scratch Lengths)
     (byForm (formOf true (sizes score .tokens) journal) (left scratch)
     (left noScratch (checked score journal))))

@@ -17,7 +17,7 @@ use lib.Seq.{drop-cons}
 use Rattle.words.specs.Word.{words, kind}
 use Rattle.format.specs.Format.{isWord}
 use Rattle.journal_form.specs.declared.Form.the-variants.{Good, Bytes, Word}
-use Rattle.journal_form.specs.Form.{tokenOf, statusOf, isInstant, rises, mayFollow, firstAgainst, formOf}
+use Rattle.journal_form.specs.Form.{tokenOf, statusIn, isInstant, rises, mayFollow, firstAgainst, formOf}
 
 module _ (journal : Bool) (tokens : ℕ) where
   pub form-bytes : (bytes : List ℕ) → (length bytes % 4 ≡ 0 → ⊥) → formOf journal tokens bytes ≡ Bytes
@@ -28,7 +28,7 @@ module _ (journal : Bool) (tokens : ℕ) where
   unfolding formOf
   form-words bytes h = rw (eq-eqb _ _ h)
 
-  pub follows : (last w : ℕ) {n k : ℕ} {a b c d e f : Bool} → n ≡ cond journal 3 1 → a ≡ (isWord 12 2 w && ltb (statusOf w) n) →
+  pub follows : (last w : ℕ) {n k : ℕ} {a b c d e f : Bool} → n ≡ cond journal 3 1 → a ≡ (isWord 12 2 w && ltb (statusIn w) n) →
       b ≡ isInstant last → c ≡ (isWord 13 8 w && ltb (tokenOf w) tokens) → d ≡ rises 13 last w →
       k ≡ kind last → e ≡ (isWord 14 8 w && ltb (tokenOf w) tokens) → f ≡ rises 14 last w →
       (a || c && (b || d) || journal && e && (b || eqb k 13 || f)) ≡ mayFollow journal tokens last w

@@ -3,7 +3,7 @@
 -- output tokens, rising strictly. In a list or journal the first word is kind 12, and status 3 is against its form. No
 -- bytes is a list, and a journal, of no instants." A list is here a journal whose statuses are 0 and whose instants
 -- have no outputs.
---     tokenOf, statusOf        the token of an input or output word; the status of an instant word
+--     tokenOf, statusIn        the token of an input or output word; the status of an instant word
 --     isInstant                a word of kind 12: an instant starts with it
 --     rises                    of two words of one kind, the later one has the higher token
 --     mayFollow                whether a word has its form after the word before it, in a journal or in a list, at T tokens;
@@ -23,8 +23,8 @@ use Rattle.journal_form.specs.declared.Form.the-variants.{Good, Bytes, W
 abbrev pub tokenOf : ℕ → ℕ
 tokenOf w = field w 0 8
 
-abbrev pub statusOf : ℕ → ℕ
-statusOf w = field w 0 2
+abbrev pub statusIn : ℕ → ℕ
+statusIn w = field w 0 2
 
 abbrev pub isInstant : ℕ → Bool
 isInstant w = eqb (kind w) 12
@@ -34,7 +34,7 @@ rises k last w = eqb (kind last) k && ltb (tokenOf last) (tokenOf w)
 
 unfoldable pub mayFollow : Bool → ℕ → ℕ → ℕ → Bool
 mayFollow journal tokens last w =
-    (isWord 12 2 w && ltb (statusOf w) (cond journal 3 1))
+    (isWord 12 2 w && ltb (statusIn w) (cond journal 3 1))
     || (isWord 13 8 w && ltb (tokenOf w) tokens && (isInstant last || rises 13 last w))
     || (journal && isWord 14 8 w && ltb (tokenOf w) tokens && (isInstant last || eqb (kind last) 13 || rises 14 last w))
 

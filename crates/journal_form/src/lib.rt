@@ -3,7 +3,7 @@ ghost use mathlib.Core.Path.{_≡_};
 ghost use mathlib.Core.Bool.{cond, _&&_};
 ghost use lib.Dec.{ltb};
 ghost use Rattle.format.specs.Format.{isWord};
-ghost use Rattle.journal_form.specs.Form.{tokenOf, statusOf, isInstant, rises, mayFollow, formOf};
+ghost use Rattle.journal_form.specs.Form.{tokenOf, statusIn, isInstant, rises, mayFollow, formOf};
 
 // The form of a list or journal.
 pub enum Form {
@@ -62,7 +62,7 @@ fn statuses(journal: bool) -> u32
 
 // Whether a word has the form of an instant word, its status one of so many.
 fn starts(w: u32, statuses: u32) -> bool
-    ensures { λ r. ⌜ r ≡ (isWord 12 2 w && ltb (statusOf w) statuses) ⌝ }
+    ensures { λ r. ⌜ r ≡ (isWord 12 2 w && ltb (statusIn w) statuses) ⌝ }
 {
     format::is_word(w, 12, 2) & (words::bits(w, 0, 2) < statuses)
 }

@@ -4,7 +4,7 @@ ghost use mathlib.Core.Path.{_≡_};
 ghost use mathlib.Core.Bool.{true};
 ghost use lib.ListN.{take, drop};
 ghost use Rattle.journal_form.specs.Form.{formOf};
-ghost use Rattle.journal_positions.specs.Places.{startBy, sizeAt, placeAfter};
+ghost use Rattle.journal_positions.specs.Positions.{startBy, sizeAt, placeAfter};
 use journal_form::Form;
 
 // The form of a journal: by which number a reader of it turns it down. It is `journal_form::form_of` for a journal.

@@ -17,7 +17,7 @@ use Rattle.journal_form.specs.declared.Form.{Form}
 use Rattle.journal_form.specs.declared.Form.the-variants.{Good, Bytes, Word}
 use Rattle.journal_form.specs.Form.{mayFollow, firstAgainst, formOf}
 use Rattle.journal_form.proofs.Against.{form-words}
-use Rattle.journal_reader.specs.Reading.{numberOf, wordOf}
+use Rattle.journal_reader.specs.Reading.{formNumber, wordOf}
 use Rattle.journal_reader.specs.Through.{Against, Meets, twelve, thirteen}
 
 module _ (tokens : ℕ) where
@@ -64,7 +64,7 @@ module _ (tokens : ℕ) where
             thirteen (eqb-true (length bytes % 4) 0 f) (subst (Against tokens 0 (words bytes)) same (l .first))
         go false f e = absurd (let z : _≡_ {A = ℕ} 0 1 = cc in omega arith)
 
-    pub form-meets : (f : Form) → formOf true tokens bytes ≡ f → (f ≡ Good → ⊥) → Meets tokens bytes (numberOf f) (wordOf f)
+    pub form-meets : (f : Form) → formOf true tokens bytes ≡ f → (f ≡ Good → ⊥) → Meets tokens bytes (formNumber f) (wordOf f)
     form-meets Good e against = absurd (against refl)
     form-meets Bytes e against = twelve (λ four. never-bytes (words bytes) 0 0 (sym (form-words true tokens bytes four) ∙ e))
     form-meets (Word k) e against = word-meets k e

@@ -17,8 +17,8 @@ use Rattle.journal_form.specs.Form.{isInstant, formOf}
 use Rattle.journal_instants.specs.Instants.{instantsIn}
 use Rattle.journal_instants.specs.Parts.{span}
 use Rattle.journal_instants.proofs.Parts.{instants-step, instants-end, part-starts, span-positive, starts-some, good-starts, good-four}
-use Rattle.journal_positions.specs.Places.{startOf, sizeAt, shownAt, placeAfter}
-use Rattle.journal_positions.proofs.Places.{start-good, start-of, size-fits, size-shown, place-here}
+use Rattle.journal_positions.specs.Positions.{startOf, sizeAt, shownAt, placeAfter}
+use Rattle.journal_positions.proofs.Positions.{start-good, start-of, size-fits, size-shown, place-here}
 use Rattle.journal_reader.specs.Reading.{readerAt, movedBy}
 use Rattle.journal_reader.specs.Through.{showing, through, Along, GoesThrough, TurnedDown}
 use Rattle.journal_reader.proofs.Numbers.{form-meets}

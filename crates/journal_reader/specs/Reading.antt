@@ -2,7 +2,7 @@
 -- empty part; a journal that meets 12 or 13 is turned down so, with an empty part." By which of the two, its form says: "list
 -- or journal bytes not a multiple of 4", number 12; "list or journal word against its form, or token T or above", number 13
 -- and the word.
---     numberOf, wordOf     the number by which a form is turned down, and the word; 0 where there is none
+--     formNumber, wordOf      the number by which a form is turned down, and the word; 0 where there is none
 --     readerAt       a reader of a journal at a position, with the journal's form
 --     made           the reader that is made of a journal
 --     movedBy        the reader, moved on by so many instants: its form is kept
@@ -13,13 +13,13 @@ use denote.Ref.{RefT, now}
 use Rattle.journal_form.specs.declared.Form.{Form}
 use Rattle.journal_form.specs.declared.Form.the-variants.{Good, Bytes, Word}
 use Rattle.journal_form.specs.Form.{formOf}
-use Rattle.journal_positions.specs.Places.{startOf, placeAfter}
+use Rattle.journal_positions.specs.Positions.{startOf, placeAfter}
 use Rattle.journal_reader.specs.declared.Reader.{Reader}
 
-abbrev pub numberOf : Form → ℕ
-numberOf Good = 0
-numberOf Bytes = 12
-numberOf (Word k) = 13
+abbrev pub formNumber : Form → ℕ
+formNumber Good = 0
+formNumber Bytes = 12
+formNumber (Word k) = 13
 
 abbrev pub wordOf : Form → ℕ
 wordOf Good = 0

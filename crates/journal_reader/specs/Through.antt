@@ -19,8 +19,8 @@ use Rattle.words.specs.Word.{words}
 use Rattle.journal_form.specs.Form.{mayFollow, formOf}
 use Rattle.journal_form.specs.declared.Form.the-variants.{Good}
 use Rattle.journal_instants.specs.Instants.{instantsIn}
-use Rattle.journal_positions.specs.Places.{shownAt}
-use Rattle.journal_reader.specs.Reading.{numberOf, wordOf, made, movedBy}
+use Rattle.journal_positions.specs.Positions.{shownAt}
+use Rattle.journal_reader.specs.Reading.{formNumber, wordOf, made, movedBy}
 use Rattle.journal_reader.specs.declared.Reader.{Reader}
 
 abbrev pub showing : Reader → List ℕ
@@ -53,7 +53,7 @@ pub data Meets (tokens : ℕ) (bytes : List ℕ) : ℕ → ℕ → Type 0 where
 
 pub record Turned (tokens : ℕ) (bytes : List ℕ) (r : Reader) : Type 0 where
   pub empty : showing r ≡ []
-  pub meets : Meets tokens bytes (numberOf (r .form)) (wordOf (r .form))
+  pub meets : Meets tokens bytes (formNumber (r .form)) (wordOf (r .form))
 
 abbrev pub TurnedDown : Type 0
 TurnedDown =

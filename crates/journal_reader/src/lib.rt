@@ -2,7 +2,7 @@
 // `journal_positions::form_of` tells: `Good` is past the last instant, `Bytes` turned down by 12, `Word(k)` turned down by 13 at word k.
 ghost use mathlib.Core.Path.{_≡_};
 ghost use lib.ListN.{take, drop};
-ghost use Rattle.journal_positions.specs.Places.{sizeAt, placeOf};
+ghost use Rattle.journal_positions.specs.Positions.{sizeAt, placeOf};
 ghost use Rattle.journal_reader.specs.Reading.{made, movedBy};
 use journal_form::Form;
 

@@ -10,7 +10,7 @@ use lib.ListN.{length}
 use Rattle.laws.proofs.Booleans.{cond-true, cond-false, neither}
 use Rattle.format.specs.Decode.{sizes}
 use Rattle.check_verdicts.specs.declared.Verdict.{Verdict}
-use Rattle.check_verdicts.specs.Verdicts.{numberOf}
+use Rattle.check_verdicts.specs.Verdicts.{verdictNumber}
 use Rattle.check_score.specs.Check.{verdict}
 use Rattle.check_score.proofs.Stages.{passed}
 use Rattle.check_score.proofs.Stages as stages
@@ -32,11 +32,11 @@ module _ (score inputs : List ℕ) (l : Lent) where
   abbrev ran : Ran
   ran = runFrom score (l .state) (length (l .journal)) (inputLists inputs)
 
-  pub turned : {v : Verdict} {n : ℕ} → n ≡ numberOf v → v ≡ verdict score → (n ≡ 0 → ⊥) → kept l (Turned v) ≡ exit score inputs l
+  pub turned : {v : Verdict} {n : ℕ} → n ≡ verdictNumber v → v ≡ verdict score → (n ≡ 0 → ⊥) → kept l (Turned v) ≡ exit score inputs l
   unfolding exit
   turned number-is is not-zero = stages.turned score number-is is (λ v. kept l (Turned v)) _ not-zero
 
-  module _ (accepted : numberOf (verdict score) ≡ 0) where
+  module _ (accepted : verdictNumber (verdict score) ≡ 0) where
     pub lengths : lengthFault l ≡ true → kept l Lengths ≡ exit score inputs l
     unfolding exit
     lengths e = passed score accepted _ (cond-true _ e refl)

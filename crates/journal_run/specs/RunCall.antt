@@ -14,7 +14,7 @@ use Prim.Native.Nat.{ℕ, _*_}
 use lib.Dec.{eqb}
 use lib.ListN.{length, drop}
 use Rattle.format.specs.Decode.{sizes}
-use Rattle.check_verdicts.specs.Verdicts.{numberOf}
+use Rattle.check_verdicts.specs.Verdicts.{verdictNumber}
 use Rattle.check_score.specs.Check.{verdict}
 use Rattle.bits.specs.Bits.{bytesOf}
 use Rattle.lent.specs.Lengths.{stateBytes, scratchBytes, noScratch}
@@ -62,7 +62,7 @@ ended l r =
 
 unfoldable pub exit : List ℕ → List ℕ → Lent → Exit
 exit score inputs l =
-    cond (not (eqb (numberOf (verdict score)) 0)) (kept l (Turned (verdict score)))
+    cond (not (eqb (verdictNumber (verdict score)) 0)) (kept l (Turned (verdict score)))
     (cond (lengthFault l) (kept l Lengths)
     (cond (stateFault (sizes score .agents) (l .state)) (kept l State)
     (byForm (formOf false (sizes score .tokens) inputs) (kept l)

@@ -20,7 +20,7 @@ use borrow.Rule.Slice.PartMut.{putMid, post-is}
 use Rattle.tcc.specs.Instant.{Answer, answer, after}
 use Rattle.format.specs.Decode.{sizes, decode}
 use Rattle.bits.specs.Bits.{bytesOf}
-use Rattle.bits.proofs.Bytes.{bytesOf-length, bytesOf-append, Written}
+use Rattle.bits.proofs.Bytes.{bytesOf-length, bytesOf-append, putFront}
 use Rattle.lent.specs.States.{stateOf, asBytes, instantNumber, numbered, nextBytes, lastNumber, LawfulState, SameState}
 use Rattle.lent.proofs.Numbered.{numbered-state, numbered-same, number-round}
 use Rattle.instant_state.specs.Standing.{stateIn}
@@ -60,17 +60,17 @@ half-none score inputs s₀ j₀ stands number e m =
     record { words = []; state = s₀; whole = ap (λ m. runFrom score s₀ m (inputLists inputs)) z ∙ behind-none _; filled-is = refl; journal-is = refl; stands-for = e; number-is = m; state-is = refl }
 
 -- the words of an instant put behind those before it
-put-behind : (ws e j₀ journal : List ℕ) (filled : ℕ) → filled ≡ 4 * length ws → journal ≡ Written ws j₀ →
-    take filled journal ++ (bytesOf e ++ drop (4 * length e) (drop filled journal)) ≡ Written (ws ++ e) j₀
+put-behind : (ws e j₀ journal : List ℕ) (filled : ℕ) → filled ≡ 4 * length ws → journal ≡ putFront ws j₀ →
+    take filled journal ++ (bytesOf e ++ drop (4 * length e) (drop filled journal)) ≡ putFront (ws ++ e) j₀
 put-behind ws e j₀ journal filled f j =
     ap₂ (λ n k. take n k ++ (bytesOf e ++ drop (4 * length e) (drop n k))) (f ∙ sym (bytesOf-length ws)) j
     ∙ ap₂ (λ l k. l ++ (bytesOf e ++ k)) (take-at (bytesOf ws) _ (length (bytesOf ws)) refl) later
     ∙ sym (append-assoc (bytesOf ws) (bytesOf e) _)
     ∙ ap₂ _++_ (sym (bytesOf-append ws e)) (ap (λ k. drop k j₀) more)
   where
-    later : drop (4 * length e) (drop (length (bytesOf ws)) (Written ws j₀)) ≡ drop (4 * length ws + 4 * length e) j₀
+    later : drop (4 * length e) (drop (length (bytesOf ws)) (putFront ws j₀)) ≡ drop (4 * length ws + 4 * length e) j₀
     later =
-        drop-drop (4 * length e) (length (bytesOf ws)) (Written ws j₀)
+        drop-drop (4 * length e) (length (bytesOf ws)) (putFront ws j₀)
         ∙ drop-append-add (bytesOf ws) (drop (4 * length ws) j₀) (4 * length e)
         ∙ drop-drop (4 * length e) (4 * length ws) j₀
 

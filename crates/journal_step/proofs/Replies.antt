@@ -12,7 +12,7 @@ use lib.Dec.{eqb}
 use lib.ListN.{length}
 use Rattle.laws.proofs.Booleans.{either}
 use Rattle.words.proofs.Words.{words-length}
-use Rattle.check_verdicts.specs.Verdicts.{numberOf}
+use Rattle.check_verdicts.specs.Verdicts.{verdictNumber}
 use Rattle.check_score.specs.Check.{verdict}
 use Rattle.journal_form.specs.declared.Form.{Form}
 use Rattle.journal_form.specs.declared.Form.the-variants.{Good, Bytes as NotWhole, Word as Wrong}
@@ -43,8 +43,8 @@ module _ {E : Type 0} (reply : E → Reply) (score : List ℕ) (n : ℕ) where
     replies : {r : Reply} → Proper score n r → Replies (down r)
     replies {r} p = record { proper = subst⁻¹ (Proper score n) (is r) p }
 
-    pub by-score : {on : E} → Replies on → Replies (cond (not (eqb (numberOf (verdict score)) 0)) (down (Turned (verdict score))) on)
-    by-score h = either Replies (not (eqb (numberOf (verdict score)) 0)) (replies turned) h
+    pub by-score : {on : E} → Replies on → Replies (cond (not (eqb (verdictNumber (verdict score)) 0)) (down (Turned (verdict score))) on)
+    by-score h = either Replies (not (eqb (verdictNumber (verdict score)) 0)) (replies turned) h
 
     pub by-lengths : (fault : Bool) {on : E} → Replies on → Replies (cond fault (down Lengths) on)
     by-lengths fault h = either Replies fault (replies lengths) h

@@ -20,7 +20,7 @@ use Rattle.format.specs.Format.{isWord}
 use Rattle.bits.specs.Bits.{bytesOf}
 use Rattle.bits.proofs.Bytes.{bytesOf-length, words-bytes}
 use Rattle.journal_form.specs.declared.Form.the-variants.{Good}
-use Rattle.journal_form.specs.Form.{tokenOf, statusOf, isInstant, rises, mayFollow, firstAgainst, formOf}
+use Rattle.journal_form.specs.Form.{tokenOf, statusIn, isInstant, rises, mayFollow, firstAgainst, formOf}
 use Rattle.journal_instants.specs.Instants.{upTo, instantsIn, tokensOf, inputsIn}
 use Rattle.journal_words.specs.History.{instantWord, inputWord, outputWord, instantWords, RisingBelow}
 use Rattle.journal_words.proofs.Forms.{wordsOf, of-another, upTo-instant, upTo-another, WellFormed, good-whole, good-words, good-instants}
@@ -39,7 +39,7 @@ word-clear : (k t : ℕ) → t < 2 ^ 8 → field (k * 2 ^ 28 + t) 8 20 ≡ 0
 unfolding field
 word-clear k t h = omega arith
 
-status-read : (s : ℕ) → s < 4 → statusOf (instantWord s) ≡ s
+status-read : (s : ℕ) → s < 4 → statusIn (instantWord s) ≡ s
 unfolding field
 status-read s h = omega arith
 
@@ -179,7 +179,7 @@ module _ (journal : Bool) (T : ℕ) (few : T ≤ 256) where
   joined-good (e ∷ es) h k last =
       let f = h e (List·Memᴰ·head refl) in
       subst⁻¹ (λ x. firstAgainst journal T k last (x ++ flatten es) ≡ Good) (f .formed .is)
-      (instant-good (flatten es) (joined-good es (λ x m. h x (List·Memᴰ·tail m))) (tokensOf 14 e) (f .silent) (f .formed .outputs) k last (statusOf (getD e 0 0)) (inputsIn e) (f .status) (f .formed .inputs))
+      (instant-good (flatten es) (joined-good es (λ x m. h x (List·Memᴰ·tail m))) (tokensOf 14 e) (f .silent) (f .formed .outputs) k last (statusIn (getD e 0 0)) (inputsIn e) (f .status) (f .formed .inputs))
 
 -- ---- the instants in such words
 
@@ -207,7 +207,7 @@ module _ (journal : Bool) (T : ℕ) (few : T ≤ 256) where
   formed-small : {ws : List ℕ} → WellFormed journal T ws → Within (λ w. w < 2 ^ 32) ws
   unfolding instantWords
   formed-small {ws} f =
-      let hs = few-statuses journal (statusOf (getD ws 0 0)) (f .status) in
+      let hs = few-statuses journal (statusIn (getD ws 0 0)) (f .status) in
       subst⁻¹ (Within (λ w. w < 2 ^ 32)) (f .formed .is)
       (on-cons {P = λ w. w < 2 ^ 32} (omega arith) (on-tokens (λ w. w < 2 ^ 32) (λ t h. omega arith) (λ t h. omega arith) (f .formed .inputs) (f .formed .outputs)))
 
@@ -234,7 +234,7 @@ module _ (journal : Bool) (T : ℕ) (few : T ≤ 256) where
   joined-instants (e ∷ es) h =
       let f = h e (List·Memᴰ·head refl) in
       let later = joined-instants es (λ x m. h x (List·Memᴰ·tail m)) in
-      let a : Apart e es = subst⁻¹ (λ x. Apart x es) (f .formed .is) (words-apart (statusOf (getD e 0 0)) (inputsIn e) (tokensOf 14 e) es (few-statuses journal (statusOf (getD e 0 0)) (f .status)) (f .formed .inputs) (f .formed .outputs) (later .0) (later .1)) in
+      let a : Apart e es = subst⁻¹ (λ x. Apart x es) (f .formed .is) (words-apart (statusIn (getD e 0 0)) (inputsIn e) (tokensOf 14 e) es (few-statuses journal (statusIn (getD e 0 0)) (f .status)) (f .formed .inputs) (f .formed .outputs) (later .0) (later .1)) in
       (a .starts, a .instants)
 
   module _ (es : List (List ℕ)) (formed : Within (WellFormed journal T) es) where

@@ -29,7 +29,7 @@ use Rattle.words.specs.Word.{joined, words, field, kind}
 use Rattle.format.specs.Format.{clear, isWord}
 use Rattle.bits.specs.Bits.{bytesOf}
 use Rattle.journal_form.specs.declared.Form.the-variants.{Good, Bytes, Word}
-use Rattle.journal_form.specs.Form.{tokenOf, statusOf, isInstant, rises, mayFollow, firstAgainst, formOf}
+use Rattle.journal_form.specs.Form.{tokenOf, statusIn, isInstant, rises, mayFollow, firstAgainst, formOf}
 use Rattle.journal_instants.specs.Instants.{upTo, instantsIn, tokensOf, inputsIn, inputLists}
 use Rattle.journal_words.specs.History.{instantWord, instantWords, RisingBelow}
 use Rattle.journal_words.specs.Formed.{Formed}
@@ -73,7 +73,7 @@ rises-so : (k last w : ℕ) → rises k last w ≡ true → Rises k last w
 rises-so k last w e = let b = and-both (eqb (kind last) k) (ltb (tokenOf last) (tokenOf w)) e in record { kind-is = eqb-true (kind last) k (b .0); higher = ltb-true (tokenOf last) (tokenOf w) (b .1) }
 
 data Follows (journal : Bool) (T last w : ℕ) : Type 0 where
-  instant : HasForm 12 2 w → statusOf w < cond journal 3 1 → Follows journal T last w
+  instant : HasForm 12 2 w → statusIn w < cond journal 3 1 → Follows journal T last w
   input : HasForm 13 8 w → tokenOf w < T → (kind last ≡ 12) ⊎ Rises 13 last w → Follows journal T last w
   output : journal ≡ true → HasForm 14 8 w → tokenOf w < T → ((kind last ≡ 12) ⊎ (kind last ≡ 13)) ⊎ Rises 14 last w → Follows journal T last w
 
@@ -83,8 +83,8 @@ module _ (journal : Bool) (T : ℕ) where
   follows last w e =
       ⊎-elim (λ h. ⊎-elim starts brings (or-cases _ _ h)) sends (or-cases _ _ e)
     where
-      starts : (isWord 12 2 w && ltb (statusOf w) (cond journal 3 1)) ≡ true → Follows journal T last w
-      starts h = let b = and-both (isWord 12 2 w) (ltb (statusOf w) (cond journal 3 1)) h in instant (has-form 12 2 w (b .0)) (ltb-true (statusOf w) (cond journal 3 1) (b .1))
+      starts : (isWord 12 2 w && ltb (statusIn w) (cond journal 3 1)) ≡ true → Follows journal T last w
+      starts h = let b = and-both (isWord 12 2 w) (ltb (statusIn w) (cond journal 3 1)) h in instant (has-form 12 2 w (b .0)) (ltb-true (statusIn w) (cond journal 3 1) (b .1))
 
       brings : (isWord 13 8 w && ltb (tokenOf w) T && (isInstant last || rises 13 last w)) ≡ true → Follows journal T last w
       brings h =
@@ -194,7 +194,7 @@ module _ (journal : Bool) (T : ℕ) where
     rest : List ℕ
     is : ws ≡ word ∷ rest
     form : HasForm 12 2 word
-    status : statusOf word < cond journal 3 1
+    status : statusIn word < cond journal 3 1
     part : Part journal T [] [] rest
 
   good-led : (ws : List ℕ) (k last : ℕ) → firstAgainst journal T k last ws ≡ Good → Within Led (instantsIn ws)
@@ -240,16 +240,16 @@ good-inputs journal T bytes g =
 
 pub record WellFormed (journal : Bool) (T : ℕ) (ws : List ℕ) : Type 0 where
   pub formed : Formed T ws
-  pub status : statusOf (getD ws 0 0) < cond journal 3 1
+  pub status : statusIn (getD ws 0 0) < cond journal 3 1
   pub silent : journal ≡ false → tokensOf 14 ws ≡ []
 
 -- a word of 32 bits with no unnamed bit is its kind and its lowest bits
-instant-rebuilt : (w : ℕ) → HasForm 12 2 w → w < 2 ^ 32 → instantWord (statusOf w) ≡ w
+instant-rebuilt : (w : ℕ) → HasForm 12 2 w → w < 2 ^ 32 → instantWord (statusIn w) ≡ w
 unfolding field
 instant-rebuilt w f h = by-parts w (w / 2 ^ 2) (w / 2 ^ 2 / 2 ^ 26) (split w 2) (split (w / 2 ^ 2) 26) (eqb-true (field w 2 26) 0 (f .is-clear))
     (shr-shr w 2 26 ∙ sym (shr-mod {n = w} 4 28 h) ∙ f .kind-is)
   where
-    by-parts : (w d e : ℕ) → d * 2 ^ 2 + w % 2 ^ 2 ≡ w → e * 2 ^ 26 + d % 2 ^ 26 ≡ d → d % 2 ^ 26 ≡ 0 → e ≡ 12 → instantWord (statusOf w) ≡ w
+    by-parts : (w d e : ℕ) → d * 2 ^ 2 + w % 2 ^ 2 ≡ w → e * 2 ^ 26 + d % 2 ^ 26 ≡ d → d % 2 ^ 26 ≡ 0 → e ≡ 12 → instantWord (statusIn w) ≡ w
     by-parts w d e p q r s = omega arith
 
 token-rebuilt : (k w : ℕ) → kind w ≡ k → clear 8 w ≡ true → w < 2 ^ 32 → k * 2 ^ 28 + tokenOf w ≡ w
@@ -283,7 +283,7 @@ led-formed {journal} {T} {ws} l = subst⁻¹ (λ x. Within (λ w. w < 2 ^ 32) x 
             is =
                 ap₂ _∷_ (sym (instant-rebuilt (l .word) (l .form) (small (l .word) (List·Memᴰ·head refl))))
                 (sym (ap₂ _++_ (kind-rebuilt 13 (l .rest) rest-small (p .cleared)) (kind-rebuilt 14 (l .rest) rest-small (p .cleared)) ∙ p .in-order))
-                ∙ sym (ap₂ (instantWords (statusOf (l .word))) ins outs);
+                ∙ sym (ap₂ (instantWords (statusIn (l .word))) ins outs);
             inputs = subst⁻¹ (RisingBelow T) ins (p .inputs);
             outputs = subst⁻¹ (RisingBelow T) outs (p .outputs);
           };

@@ -1,9 +1,12 @@
 -- Whether bytes are no state, by their first word.
 --     fault-running, fault-aborted, fault-other
+--     by-first-word      so one of these three decides
 use mathlib.Core.Path.{_≡_, refl, sym}
 use mathlib.Core.Bool.{Bool, true, false, _||_, or-false}
 use mathlib.Core.List.{List}
+use mathlib.Core.Logic.{by-cases}
 use Prim.Native.Nat.{ℕ}
+use native.Mathlib.Decide.{ℕ-discrete}
 use borrow.Author.Tests.{ne-eqb, le-leb}
 use native.Mathlib.Omega.{arith}
 use lib.Dec.{leb}
@@ -32,3 +35,6 @@ module _ (n : ℕ) (s : List ℕ) where
   pub fault-other : (wordAt s 0 ≡ runningWord → ⊥) → (wordAt s 0 ≡ abortedWord → ⊥) → true ≡ stateFault n s
   unfolding stateFault
   fault-other p q = rw (ne-eqb (wordAt s 0) runningWord p, ne-eqb (wordAt s 0) abortedWord q)
+
+pub by-first-word : {A : Type 0} (s : List ℕ) → (wordAt s 0 ≡ runningWord → A) → (wordAt s 0 ≡ abortedWord → A) → ((wordAt s 0 ≡ runningWord → ⊥) → (wordAt s 0 ≡ abortedWord → ⊥) → A) → A
+by-first-word s r a o = by-cases (ℕ-discrete (wordAt s 0) runningWord) r (λ p. by-cases (ℕ-discrete (wordAt s 0) abortedWord) a (o p))

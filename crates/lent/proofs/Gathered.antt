@@ -19,7 +19,7 @@ use Rattle.laws.proofs.Sets.{below-length}
 use Rattle.flags.specs.Flags.{setOf}
 use Rattle.bits.specs.Bits.{bitsValue, bytesOf}
 use Rattle.bits.proofs.Bits.{bitsValue-same}
-use Rattle.bits.proofs.Bytes.{bytesOf-length, bytesOf-append, Written, written-more}
+use Rattle.bits.proofs.Bytes.{bytesOf-length, bytesOf-append, putFront, put-front-more}
 use Rattle.bits.proofs.Filled.{has-set}
 use Rattle.lent.specs.Lengths.{unnumberedBytes}
 use Rattle.lent.specs.States.{agentWords}
@@ -34,11 +34,11 @@ pub from-set : (n : ℕ) (flags : List Bool) (k : ℕ) → gathered n flags k �
 from-set n flags k = bitsValue-same _ _ n (λ j h. sym (has-set flags (n * k + j)))
 
 unfoldable pub stateWritten : ℕ → List Bool → ℕ → List ℕ → List ℕ
-stateWritten first awake k s = Written (first ∷ map (gathered 32 awake) (below k)) s
+stateWritten first awake k s = putFront (first ∷ map (gathered 32 awake) (below k)) s
 
 pub state-first : (first : ℕ) (awake : List Bool) (s t : List ℕ) → t ≡ take 0 s ++ bytesOf (first ∷ []) ++ drop 4 s → t ≡ stateWritten first awake 0 t
 unfolding stateWritten bytesOf
-state-first first awake s t e = e ∙ sym (ap (Written (first ∷ [])) e)
+state-first first awake s t e = e ∙ sym (ap (putFront (first ∷ [])) e)
 
 module _ (first : ℕ) (awake : List Bool) where
   pub state-more : (k w : ℕ) (s t u : List ℕ) → t ≡ stateWritten first awake k s → w ≡ gathered 32 awake k
@@ -47,9 +47,9 @@ module _ (first : ℕ) (awake : List Bool) where
   state-more k w s t u e v p =
       p
       ∙ ap₂ (λ x y. take (4 * (1 + k)) x ++ bytesOf (y ∷ []) ++ drop (4 * (1 + k) + 4) x) e v
-      ∙ written-more (first ∷ map (gathered 32 awake) (below k)) (gathered 32 awake k) (1 + k) s (omega (arith, parts-length 32 k awake))
-      ∙ ap (λ l. Written (first ∷ l) s) (sym (map-snoc (gathered 32 awake) (below k) k))
-      ∙ ap (λ n. Written (first ∷ map (gathered 32 awake) (below n)) s) (sym (add-one k))
+      ∙ put-front-more (first ∷ map (gathered 32 awake) (below k)) (gathered 32 awake k) (1 + k) s (omega (arith, parts-length 32 k awake))
+      ∙ ap (λ l. putFront (first ∷ l) s) (sym (map-snoc (gathered 32 awake) (below k) k))
+      ∙ ap (λ n. putFront (first ∷ map (gathered 32 awake) (below n)) s) (sym (add-one k))
 
   pub state-all : (s t u : List ℕ) → t ≡ take 0 s ++ bytesOf (first ∷ []) ++ drop 4 s → u ≡ stateWritten first awake 32 t
       → u ≡ bytesOf (first ∷ agentWords (setOf awake)) ++ drop unnumberedBytes s

@@ -11,7 +11,7 @@
 --     numbered-alike       with another number it differs in that alone
 --     next-number          an answered instant adds one
 use mathlib.Core.Path.{_≡_, sym, ap, ap₂, subst⁻¹, _∙_}
-use mathlib.Core.Bool.{cond, not, _&&_, _||_}
+use mathlib.Core.Bool.{cond}
 use mathlib.Core.List.{List, [], _∷_, _++_, List·Memᴰ·not-nil}
 use Prim.Native.Nat.{ℕ, suc, _+_, _*_, _/_, _%_, _<_, _≤_}
 use native.Mathlib.Omega.{arith}
@@ -26,7 +26,8 @@ use Rattle.words.proofs.Words.{words-length, word-joined}
 use Rattle.bits.specs.Bits.{bitAt, bytesOf}
 use Rattle.bits.proofs.Bytes.{bytesOf-length, bytesOf-append, words-bytes}
 use Rattle.lent.specs.Lengths.{unnumberedBytes, stateBytes}
-use Rattle.lent.specs.States.{runningWord, abortedWord, agentsIn, stateFault, stateOf, stateWords, asBytes, instantNumber, numbered, nextBytes, lastNumber, SameButNumber, LawfulState, SameState}
+use Rattle.lent.specs.States.{abortedWord, agentsIn, stateFault, stateOf, stateWords, asBytes, instantNumber, numbered, nextBytes, lastNumber, SameButNumber, LawfulState, SameState}
+use Rattle.lent.proofs.Faults.{fault-running, fault-aborted, fault-other, by-first-word}
 use Rattle.lent.proofs.Gathered.{number-put}
 use Rattle.lent.proofs.Round.{stateWords-length, stateWords-fit, asBytes-length, asBytes-same, state-round}
 
@@ -43,9 +44,12 @@ module _ (s t : List ℕ) (same : SameHead s t) where
   state-aside = ap₂ (λ w l. cond (eqb w abortedWord) aborted (running l)) (same 0 (omega arith)) agents-aside
 
   pub fault-aside : (n : ℕ) → stateFault n s ≡ stateFault n t
-  unfolding stateFault
   fault-aside n =
-      ap₂ (λ w l. not (eqb w runningWord || eqb w abortedWord) || any (λ i. leb n i) l || (eqb w abortedWord && any (λ i. leb 0 i) l)) (same 0 (omega arith)) agents-aside
+      let first : wordAt s 0 ≡ wordAt t 0 = same 0 (omega arith) in
+      by-first-word s
+      (λ e. sym (fault-running n s e) ∙ ap (any (λ i. leb n i)) agents-aside ∙ fault-running n t (sym first ∙ e))
+      (λ e. sym (fault-aborted n s e) ∙ ap (any (λ i. leb 0 i)) agents-aside ∙ fault-aborted n t (sym first ∙ e))
+      (λ p q. sym (fault-other n s p q) ∙ fault-other n t (λ e. p (first ∙ e)) (λ e. q (first ∙ e)))
 
 bytes-head : (s t : List ℕ) → unnumberedBytes ≤ length s → unnumberedBytes ≤ length t → ((i : ℕ) → i < unnumberedBytes → getD s i 0 ≡ getD t i 0) → SameHead s t
 bytes-head s t a b e i h =

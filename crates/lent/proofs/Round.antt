@@ -8,13 +8,14 @@
 --     lawful-bytes       bytes written for a lawful state have no fault
 --     faultless-lawful   bytes without fault stand for a lawful state
 use mathlib.Core.Path.{_≡_, refl, sym, ap, _∙_}
-use mathlib.Core.Bool.{Bool, true, false, cond, not, _&&_, _||_}
+use mathlib.Core.Bool.{Bool, true, false}
 use mathlib.Core.List.{List, [], _∷_, List·Memᴰ, List·Memᴰ·not-nil}
+use mathlib.Core.Logic.{by-cases}
 use Prim.Native.Nat.{ℕ, suc, _+_, _*_, _/_, _%_, _^_, _<_, _≤_}
 use borrow.Author.Tests.{leb-true, le-leb}
 use native.Mathlib.Decide.{decLt}
 use native.Mathlib.Omega.{arith}
-use lib.Dec.{eqb, leb}
+use lib.Dec.{leb}
 use lib.ListN.{length, getD, length-map}
 use Rattle.laws.specs.Sets.{Same, below, keep, any, has}
 use Rattle.laws.proofs.Booleans.{true-is-false}
@@ -28,7 +29,7 @@ use Rattle.bits.proofs.Bytes.{bytesOf-length, words-bytes}
 use Rattle.lent.specs.Lengths.{unnumberedBytes}
 use Rattle.lent.specs.States.{runningWord, abortedWord, agentsIn, stateFault, stateOf, agentWords, stateWords, asBytes, LawfulState, SameState}
 use Rattle.lent.proofs.Agents.{awakeIn, agents-within}
-use Rattle.lent.proofs.Faults.{fault-running, fault-aborted}
+use Rattle.lent.proofs.Faults.{fault-running, fault-aborted, fault-other, by-first-word}
 
 -- ---- the words of a set of agents
 
@@ -129,22 +130,9 @@ lawful-bytes n b aborted h =
     sym (fault-aborted n s (first-word abortedWord (omega arith) []))
     ∙ none-passes (λ i. leb 0 i) (agentsIn s) (λ i m p. List·Memᴰ·not-nil (agents-round abortedWord (omega arith) [] (λ j t. absurd (List·Memᴰ·not-nil t)) i .0 m))
 
-middle : (a b c : Bool) → (a || b || c) ≡ false → b ≡ false
-middle true b c e = absurd (true-is-false refl e)
-middle false true c e = absurd (true-is-false refl e)
-middle false false c e = refl
-
 pub faultless-lawful : (n : ℕ) (s : List ℕ) → stateFault n s ≡ false → LawfulState n (stateOf s)
-unfolding stateFault stateOf LawfulState
-faultless-lawful n s e = go (eqb (wordAt s 0) abortedWord)
+unfolding stateOf LawfulState
+faultless-lawful n s e = by-first-word s (λ w. rw w (below-n (fault-running n s w ∙ e))) (λ w. rw w tt) (λ p q. absurd (true-is-false refl (fault-other n s p q ∙ e)))
   where
-    none : any (λ i. leb n i) (agentsIn s) ≡ false
-    none = middle (not (eqb (wordAt s 0) runningWord || eqb (wordAt s 0) abortedWord)) (any (λ i. leb n i) (agentsIn s)) (eqb (wordAt s 0) abortedWord && any (λ i. leb 0 i) (agentsIn s)) e
-
-    below-n : (i : ℕ) → List·Memᴰ i (agentsIn s) → Dec (i < n) → i < n
-    below-n i m (yes h) = h
-    below-n i m (no h) = absurd (true-is-false (some-any (λ j. leb n j) m (le-leb n i (omega arith))) none)
-
-    go : (b : Bool) → LawfulState n (cond b aborted (running (agentsIn s)))
-    go true = tt
-    go false = λ i m. below-n i m (decLt i n)
+    below-n : any (λ i. leb n i) (agentsIn s) ≡ false → (i : ℕ) → List·Memᴰ i (agentsIn s) → i < n
+    below-n none i m = by-cases (decLt i n) (λ h. h) (λ h. absurd (true-is-false (some-any (λ j. leb n j) m (le-leb n i (omega arith))) none))

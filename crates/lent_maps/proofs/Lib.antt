@@ -1,3 +1,3 @@
 pub mod Tokens
-pub mod Written
+pub mod MapWriting
 pub mod Round

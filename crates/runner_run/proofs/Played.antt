@@ -6,7 +6,7 @@ use Prim.Native.Nat.{ℕ}
 use borrow.Author.Tests.{eqb-true, eqb-false}
 use lib.Dec.{eqb}
 use Rattle.format.specs.Decode.{decode}
-use Rattle.check_verdicts.specs.Verdicts.{numberOf}
+use Rattle.check_verdicts.specs.Verdicts.{verdictNumber}
 use Rattle.check_score.specs.Check.{verdict}
 use Rattle.lent.specs.States.{startBytes}
 use Rattle.lent.specs.Lengths.{noScratch}
@@ -17,7 +17,7 @@ use Rattle.score_answer.specs.Replies.{ofRunReply}
 use Rattle.score.specs.ScoreRun.{ScoreRun}
 use Rattle.runner_run.specs.Played.{fromStart, Played}
 
-module _ (score inputs state journal : List ℕ) (starts : numberOf (verdict score) ≡ 0 → state ≡ startBytes (decode score)) where
+module _ (score inputs state journal : List ℕ) (starts : verdictNumber (verdict score) ≡ 0 → state ≡ startBytes (decode score)) where
   abbrev before : Lent
   before = lent state journal noScratch
 
@@ -26,9 +26,9 @@ module _ (score inputs state journal : List ℕ) (starts : numberOf (verdict sco
     replies : exit score inputs before .reply ≡ exit score inputs (fromStart score journal) .reply
 
   alike : Alike
-  alike = go (eqb (numberOf (verdict score)) 0) refl
+  alike = go (eqb (verdictNumber (verdict score)) 0) refl
     where
-      go : (b : Bool) → eqb (numberOf (verdict score)) 0 ≡ b → Alike
+      go : (b : Bool) → eqb (verdictNumber (verdict score)) 0 ≡ b → Alike
       go true e =
           let s = starts (eqb-true _ 0 e) in
           record { journals = ap (λ x. exit score inputs (lent x journal noScratch) .lent .journal) s; replies = ap (λ x. exit score inputs (lent x journal noScratch) .reply) s }

@@ -2,7 +2,7 @@
 ghost use mathlib.Core.Path.{_≡_};
 ghost use lib.ListN.{length};
 ghost use Rattle.format.specs.Decode.{decode};
-ghost use Rattle.check_verdicts.specs.Verdicts.{numberOf};
+ghost use Rattle.check_verdicts.specs.Verdicts.{verdictNumber};
 ghost use Rattle.check_score.specs.Check.{verdict};
 ghost use Rattle.lent.specs.Lengths.{stateBytes};
 ghost use Rattle.lent.specs.States.{startBytes};
@@ -21,7 +21,7 @@ pub fn play(score: &[u8], inputs: &[u8], journal: &mut [u8]) -> u64
 // The start state, if the score is accepted.
 fn start(score: &[u8]) -> [u8; lent::STATE_BYTES]
     ensures { λ r. ⌜ stateBytes ≡ length r ⌝ }
-    ensures { λ r. ⌜ (numberOf (verdict (now (score .entry))) ≡ 0 → r ≡ startBytes (decode (now (score .entry)))) ⌝ }
+    ensures { λ r. ⌜ (verdictNumber (verdict (now (score .entry))) ≡ 0 → r ≡ startBytes (decode (now (score .entry)))) ⌝ }
 {
     let mut state = [0u8; lent::STATE_BYTES];
     if check_verdicts::number_of(check_score::check(score)) == 0 {

@@ -5,7 +5,7 @@
 use mathlib.Core.Path.{_≡_, sym, ap, _∙_}
 use mathlib.Core.List.{List}
 use Prim.Native.Nat.{ℕ}
-use Rattle.check_verdicts.specs.Verdicts as verdicts
+use Rattle.check_verdicts.specs.Verdicts.{verdictNumber, verdictValue}
 use Rattle.check_verdicts.proofs.Verdicts.{number-few, verdict-settled}
 use Rattle.check_score.specs.Check.{verdict}
 use Rattle.check_score.proofs.Values.{verdict-small}
@@ -17,10 +17,10 @@ use Rattle.score.specs.CheckCall.{CheckCall, OneExit, OneAnswer}
 pub one-exit : OneExit
 one-exit s a b p q = p .answered ∙ sym (q .answered)
 
-pub read : (s : List ℕ) (a : ℕ) → CheckCall s a → (numberIn a ≡ verdicts.numberOf (verdict s)) × (valueIn a ≡ verdicts.valueOf (verdict s))
+pub read : (s : List ℕ) (a : ℕ) → CheckCall s a → (numberIn a ≡ verdictNumber (verdict s)) × (valueIn a ≡ verdictValue (verdict s))
 read s a c =
-    let n = verdicts.numberOf (verdict s) in
-    let v = verdicts.valueOf (verdict s) in
+    let n = verdictNumber (verdict s) in
+    let v = verdictValue (verdict s) in
     let e = exact (reply n v) (reply-fits n v (number-few (verdict s)) (verdict-small s)) in
     (ap numberIn (c .answered) ∙ e .number ∙ reply-number n v, ap valueIn (c .answered) ∙ e .value ∙ reply-value n v)
 

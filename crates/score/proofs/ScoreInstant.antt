@@ -23,7 +23,7 @@ use Rattle.format.specs.Decode.{sizes, decode}
 use Rattle.format.proofs.Decode.{sizes-few}
 use Rattle.check_verdicts.specs.declared.Verdict.{Verdict}
 use Rattle.check_verdicts.specs.declared.Verdict.the-variants.{Accepted}
-use Rattle.check_verdicts.specs.Verdicts as verdicts
+use Rattle.check_verdicts.specs.Verdicts.{verdictNumber, verdictValue}
 use Rattle.check_verdicts.proofs.Verdicts.{number-few, verdict-settled}
 use Rattle.check_score.specs.Check.{verdict}
 use Rattle.check_score.proofs.Values.{verdict-small}
@@ -65,7 +65,7 @@ agents-few s = simp (length-map, length-take) (omega (arith, sizes-few s))
 
 -- what the replies of a call have in common
 data Proper : Replied → Type 0 where
-  turned : (v : Verdict) → (verdicts.numberOf v ≡ 0 → ⊥) → verdicts.valueOf v < 2 ^ 24 → Proper (Turned v)
+  turned : (v : Verdict) → (verdictNumber v ≡ 0 → ⊥) → verdictValue v < 2 ^ 24 → Proper (Turned v)
   lengths : Proper Lengths
   state : Proper State
   input : Proper Input
@@ -76,12 +76,12 @@ data Proper : Replied → Type 0 where
 record Replies (e : Exit) : Type 0 where
   proper : Proper (e .reply)
 
-checked-first : (v : Verdict) (l : Lent) {y : Exit} → verdicts.valueOf v < 2 ^ 24 → Replies y → Replies (cond (not (eqb (verdicts.numberOf v) 0)) (kept l (Turned v)) y)
-checked-first v l {y} h q = go (eqb (verdicts.numberOf v) 0) refl
+checked-first : (v : Verdict) (l : Lent) {y : Exit} → verdictValue v < 2 ^ 24 → Replies y → Replies (cond (not (eqb (verdictNumber v) 0)) (kept l (Turned v)) y)
+checked-first v l {y} h q = go (eqb (verdictNumber v) 0) refl
   where
-    go : (b : Bool) → eqb (verdicts.numberOf v) 0 ≡ b → Replies (cond (not b) (kept l (Turned v)) y)
+    go : (b : Bool) → eqb (verdictNumber v) 0 ≡ b → Replies (cond (not b) (kept l (Turned v)) y)
     go true e = q
-    go false e = record { proper = turned v (eqb-false (verdicts.numberOf v) 0 e) h }
+    go false e = record { proper = turned v (eqb-false (verdictNumber v) 0 e) h }
 
 answered-proper : (score : List ℕ) (st : Between) (inputs : List ℕ) → let a = answer (decode score) st inputs in Proper (Settled (a .status) (count a))
 answered-proper score st inputs =
@@ -102,7 +102,7 @@ exit-replies score given l =
     (record { proper = answered-proper score (stateOf (l .state)) (tokensIn given) }))))))
 
 proper-fits : {r : Replied} → Proper r → Fits (ofReply r)
-proper-fits (turned v n h) = reply-fits (verdicts.numberOf v) (verdicts.valueOf v) (number-few v) h
+proper-fits (turned v n h) = reply-fits (verdictNumber v) (verdictValue v) (number-few v) h
 proper-fits lengths = omega arith
 proper-fits state = omega arith
 proper-fits input = omega arith
@@ -139,8 +139,8 @@ verdictIn Last = Accepted
 verdictIn Next = Accepted
 verdictIn (Settled s c) = Accepted
 
-verdict-number : {r : Replied} → Proper r → verdicts.numberOf (verdictIn r) ≡ cond (leb (numberOf (ofReply r)) 7) (numberOf (ofReply r)) 0
-verdict-number (turned v n h) = rw (reply-number (verdicts.numberOf v) (verdicts.valueOf v), le-leb (verdicts.numberOf v) 7 (number-few v))
+verdict-number : {r : Replied} → Proper r → verdictNumber (verdictIn r) ≡ cond (leb (numberOf (ofReply r)) 7) (numberOf (ofReply r)) 0
+verdict-number (turned v n h) = rw (reply-number (verdictNumber v) (verdictValue v), le-leb (verdictNumber v) 7 (number-few v))
 verdict-number lengths = refl
 verdict-number state = refl
 verdict-number input = refl
@@ -148,8 +148,8 @@ verdict-number last = refl
 verdict-number follows = refl
 verdict-number (settles s c p q) = refl
 
-verdict-value : {r : Replied} → Proper r → verdicts.valueOf (verdictIn r) ≡ valueOf (ofReply r)
-verdict-value (turned v n h) = sym (reply-value (verdicts.numberOf v) (verdicts.valueOf v))
+verdict-value : {r : Replied} → Proper r → verdictValue (verdictIn r) ≡ valueOf (ofReply r)
+verdict-value (turned v n h) = sym (reply-value (verdictNumber v) (verdictValue v))
 verdict-value lengths = refl
 verdict-value state = refl
 verdict-value input = refl
@@ -160,8 +160,8 @@ verdict-value (settles s c p q) = refl
 by-itself : {r : Replied} → Proper r → r ≡ replyBy (verdictIn r) (numberOf (ofReply r)) (statusOf (ofReply r)) (countOf (ofReply r))
 by-itself (turned v n h) =
     let few = number-few v in
-    let m = verdicts.numberOf v in
-    rw (reply-number m (verdicts.valueOf v), ne-eqb m 0 n, ne-eqb m 8 (λ z. omega arith), ne-eqb m 9 (λ z. omega arith), ne-eqb m 10 (λ z. omega arith), ne-eqb m 18 (λ z. omega arith), ne-eqb m 11 (λ z. omega arith))
+    let m = verdictNumber v in
+    rw (reply-number m (verdictValue v), ne-eqb m 0 n, ne-eqb m 8 (λ z. omega arith), ne-eqb m 9 (λ z. omega arith), ne-eqb m 10 (λ z. omega arith), ne-eqb m 18 (λ z. omega arith), ne-eqb m 11 (λ z. omega arith))
 by-itself lengths = refl
 by-itself state = refl
 by-itself input = refl

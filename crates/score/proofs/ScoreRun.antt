@@ -11,7 +11,7 @@ use mathlib.Core.List.{List}
 use Prim.Native.Nat.{ℕ, _/_, _^_, _<_}
 use native.Mathlib.Omega.{arith}
 use lib.ListN.{length}
-use Rattle.check_verdicts.specs.Verdicts as verdicts
+use Rattle.check_verdicts.specs.Verdicts.{verdictNumber, verdictValue}
 use Rattle.check_verdicts.proofs.Verdicts.{number-few}
 use Rattle.check_score.specs.Check.{verdict}
 use Rattle.check_score.proofs.Values.{verdict-small}
@@ -30,7 +30,7 @@ pub one-exit : OneExit
 one-exit score inputs before after₁ after₂ a b p q = (p .written ∙ sym (q .written), p .answered ∙ sym (q .answered))
 
 pub proper-fits : {score : List ℕ} {n : ℕ} {r : Replied} → n < 2 ^ 61 → Proper score n r → Fits (ofRunReply r)
-proper-fits {score = score} few turned = reply-fits (verdicts.numberOf (verdict score)) (verdicts.valueOf (verdict score)) (number-few (verdict score)) (verdict-small score)
+proper-fits {score = score} few turned = reply-fits (verdictNumber (verdict score)) (verdictValue (verdict score)) (number-few (verdict score)) (verdict-small score)
 proper-fits few lengths = omega arith
 proper-fits few no-state = omega arith
 proper-fits few unlawful = omega arith

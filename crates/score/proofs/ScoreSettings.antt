@@ -15,7 +15,7 @@ use lib.Dec.{eqb, leb}
 use Rattle.format.specs.Decode.{decode}
 use Rattle.check_verdicts.specs.declared.Verdict.{Verdict}
 use Rattle.check_verdicts.specs.declared.Verdict.the-variants.{Accepted}
-use Rattle.check_verdicts.specs.Verdicts as verdicts
+use Rattle.check_verdicts.specs.Verdicts.{verdictNumber, verdictValue}
 use Rattle.check_verdicts.proofs.Verdicts.{number-few, verdict-settled}
 use Rattle.check_score.specs.Check.{verdict}
 use Rattle.check_score.proofs.Values.{verdict-small}
@@ -36,7 +36,7 @@ one-exit score state switches k a b p q = p .answered ∙ sym (q .answered)
 
 module _ (score state switches : List ℕ) (k : ℕ) where
   outcome-fits : {r : Replied} → Outcome score state switches k r → Fits (ofSettings r)
-  outcome-fits (turned n) = let v = verdict score in reply-fits (verdicts.numberOf v) (verdicts.valueOf v) (number-few v) (verdict-small score)
+  outcome-fits (turned n) = let v = verdict score in reply-fits (verdictNumber v) (verdictValue v) (number-few v) (verdict-small score)
   outcome-fits lengths = omega arith
   outcome-fits unlawful = omega arith
   outcome-fits switched = omega arith
@@ -72,15 +72,15 @@ verdictIn (Counted c) = Accepted
 
 -- the three numbers of each reply are those that a caller reads
 module _ {score state switches : List ℕ} {k : ℕ} where
-  verdict-number : {r : Replied} → Outcome score state switches k r → verdicts.numberOf (verdictIn r) ≡ cond (leb (numberOf (ofSettings r)) 7) (numberOf (ofSettings r)) 0
-  verdict-number (turned n) = let v = verdict score in rw (reply-number (verdicts.numberOf v) (verdicts.valueOf v), le-leb (verdicts.numberOf v) 7 (number-few v))
+  verdict-number : {r : Replied} → Outcome score state switches k r → verdictNumber (verdictIn r) ≡ cond (leb (numberOf (ofSettings r)) 7) (numberOf (ofSettings r)) 0
+  verdict-number (turned n) = let v = verdict score in rw (reply-number (verdictNumber v) (verdictValue v), le-leb (verdictNumber v) 7 (number-few v))
   verdict-number lengths = refl
   verdict-number unlawful = refl
   verdict-number switched = refl
   verdict-number (counted a) = refl
 
-  verdict-value : {r : Replied} → Outcome score state switches k r → verdicts.valueOf (verdictIn r) ≡ valueOf (ofSettings r)
-  verdict-value (turned n) = let v = verdict score in sym (reply-value (verdicts.numberOf v) (verdicts.valueOf v))
+  verdict-value : {r : Replied} → Outcome score state switches k r → verdictValue (verdictIn r) ≡ valueOf (ofSettings r)
+  verdict-value (turned n) = let v = verdict score in sym (reply-value (verdictNumber v) (verdictValue v))
   verdict-value lengths = refl
   verdict-value unlawful = refl
   verdict-value switched = refl
@@ -90,8 +90,8 @@ module _ {score state switches : List ℕ} {k : ℕ} where
   by-itself (turned n) =
       let v = verdict score in
       let few = number-few v in
-      let m = verdicts.numberOf v in
-      rw (reply-number m (verdicts.valueOf v), ne-eqb m 0 n, ne-eqb m 8 (λ z. omega arith), ne-eqb m 9 (λ z. omega arith), ne-eqb m 17 (λ z. omega arith))
+      let m = verdictNumber v in
+      rw (reply-number m (verdictValue v), ne-eqb m 0 n, ne-eqb m 8 (λ z. omega arith), ne-eqb m 9 (λ z. omega arith), ne-eqb m 17 (λ z. omega arith))
   by-itself lengths = refl
   by-itself unlawful = refl
   by-itself switched = refl

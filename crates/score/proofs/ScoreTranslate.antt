@@ -12,13 +12,13 @@ use Prim.Native.Nat.{ℕ, _<_}
 use native.Mathlib.Omega.{arith}
 use Rattle.laws.proofs.Lists.{on-entries}
 use Rattle.laws.proofs.Sets.{Within}
-use Rattle.check_verdicts.specs.Verdicts as verdicts
+use Rattle.check_verdicts.specs.Verdicts.{verdictNumber, verdictValue}
 use Rattle.check_verdicts.proofs.Verdicts.{number-few}
 use Rattle.check_score.proofs.Values.{verdict-small}
 use Rattle.draft_plain.specs.declared.Reply.{Reply as Replied}
 use Rattle.draft_format.specs.DraftFile.{asWhens, draftVerdict}
-use Rattle.draft_contract.specs.TranslateCall.{Exit, exit, TranslateCall}
-use Rattle.draft_contract.proofs.Plain.{plain-short, Outcome, turned, lengths, large, writes, outcome}
+use Rattle.draft_call.specs.TranslateCall.{Exit, exit, TranslateCall}
+use Rattle.draft_call.proofs.Plain.{plain-short, Outcome, turned, lengths, large, writes, outcome}
 use Rattle.score_answer.specs.Answer.{Fits, packed, Reads}
 use Rattle.score_answer.specs.Replies.{ofTranslation}
 use Rattle.score_answer.proofs.Answer.{exact}
@@ -33,7 +33,7 @@ pub bytes-below : (s : List ℕ) → Slice s → Within (λ b. b < 256) s
 bytes-below s lent = on-entries (λ b. b < 256) s (λ i h. lent .small i)
 
 outcome-fits : {draft before : List ℕ} {e : Exit} → Slice draft → Outcome draft before e → Fits (ofTranslation (e .reply))
-outcome-fits {draft = draft} lent (turned n) = let v = draftVerdict draft in reply-fits (verdicts.numberOf v) (verdicts.valueOf v) (number-few v) (verdict-small (asWhens draft))
+outcome-fits {draft = draft} lent (turned n) = let v = draftVerdict draft in reply-fits (verdictNumber v) (verdictValue v) (number-few v) (verdict-small (asWhens draft))
 outcome-fits lent (lengths a n) = omega arith
 outcome-fits lent (large a l f) = omega arith
 outcome-fits {draft = draft} lent (writes a l f) = omega (arith, plain-short draft (bytes-below draft lent) a f)

@@ -6,7 +6,7 @@
 use mathlib.Core.Path.{_≡_}
 use mathlib.Core.List.{List}
 use Prim.Native.Nat.{ℕ}
-use Rattle.draft_contract.specs.TranslateCall.{exit}
+use Rattle.draft_call.specs.TranslateCall.{exit}
 use Rattle.score_answer.specs.Answer.{packed}
 use Rattle.score_answer.specs.Replies.{ofTranslation}
 use Rattle.score.specs.Slice.{Slice}

@@ -5,7 +5,7 @@
 --     ofTranslation  the reply of a translation
 --     ofSettings     the reply of a count of settings
 use Rattle.check_verdicts.specs.declared.Verdict.{Verdict}
-use Rattle.check_verdicts.specs.Verdicts.{numberOf, valueOf}
+use Rattle.check_verdicts.specs.Verdicts.{verdictNumber, verdictValue}
 use Rattle.instant_call.specs.declared.Reply.{Reply as InstantReply}
 use Rattle.instant_call.specs.declared.Reply.the-variants as instants
 use Rattle.journal_step.specs.declared.Reply.{Reply as RunReply}
@@ -17,7 +17,7 @@ use Rattle.settings_call.specs.declared.Reply.the-variants as settings
 use Rattle.score_answer.specs.Answer.{Reply, reply, accepted, refused, settled, counted}
 
 abbrev pub ofVerdict : Verdict → Reply
-ofVerdict v = reply (numberOf v) (valueOf v)
+ofVerdict v = reply (verdictNumber v) (verdictValue v)
 
 abbrev pub ofReply : InstantReply → Reply
 ofReply (instants.Score v) = ofVerdict v
@@ -44,7 +44,7 @@ abbrev pub ofTranslation : TranslationReply → Reply
 ofTranslation (translations.Draft v) = ofVerdict v
 ofTranslation translations.Lengths = refused 8 0
 ofTranslation translations.Large = refused 16 0
-ofTranslation (translations.Written n) = accepted n
+ofTranslation (translations.Translated n) = accepted n
 
 abbrev pub ofSettings : SettingsReply → Reply
 ofSettings (settings.Score v) = ofVerdict v

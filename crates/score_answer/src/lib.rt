@@ -64,7 +64,7 @@ pub fn of_translation(reply: draft_plain::Reply) -> u64
         draft_plain::Reply::Draft(verdict) => of_verdict(verdict),
         draft_plain::Reply::Lengths => refusal(8, 0),
         draft_plain::Reply::Large => refusal(16, 0),
-        draft_plain::Reply::Written(bytes) => bytes as u64,
+        draft_plain::Reply::Translated(bytes) => bytes as u64,
     }
 }
 

@@ -15,7 +15,7 @@ use Rattle.laws.proofs.Booleans.{by-test, neither}
 use Rattle.laws.proofs.Sets.{none-above}
 use Rattle.format.specs.Decode.{sizes, decode}
 use Rattle.format.proofs.Decode.{decode-tokens}
-use Rattle.check_verdicts.specs.Verdicts.{numberOf}
+use Rattle.check_verdicts.specs.Verdicts.{verdictNumber}
 use Rattle.check_score.specs.Check.{verdict}
 use Rattle.lent.specs.Lengths.{stateBytes}
 use Rattle.lent.specs.States.{stateFault, stateOf}
@@ -28,13 +28,13 @@ use Rattle.settings_call.specs.declared.Reply.the-variants.{Score as Tur
 use Rattle.settings_call.specs.SettingsCall.{pressFault, reply}
 
 pub record Accepts (score state switches : List ℕ) (k : ℕ) : Type 0 where
-  pub accepted : numberOf (verdict score) ≡ 0
+  pub accepted : verdictNumber (verdict score) ≡ 0
   pub long : length state ≡ stateBytes
   pub lawful : stateFault (sizes score .agents) state ≡ false
   pub faultless : pressFault (sizes score .tokens) switches k ≡ false
 
 pub data Outcome (score state switches : List ℕ) (k : ℕ) : Reply → Type 0 where
-  turned : (numberOf (verdict score) ≡ 0 → ⊥) → Outcome score state switches k (Turned (verdict score))
+  turned : (verdictNumber (verdict score) ≡ 0 → ⊥) → Outcome score state switches k (Turned (verdict score))
   lengths : Outcome score state switches k Lengths
   unlawful : Outcome score state switches k State
   switched : Outcome score state switches k Switches
@@ -44,7 +44,7 @@ pub outcome : (score state switches : List ℕ) (k : ℕ) → Outcome score stat
 unfolding reply
 outcome score state switches k =
     let O : Reply → Type 0 = Outcome score state switches k in
-    let number = numberOf (verdict score) in
+    let number = verdictNumber (verdict score) in
     by-test O (not (eqb number 0)) (λ e. turned (eqb-false number 0 (not-true (eqb number 0) e)))
     (λ passed. by-test O (not (eqb (length state) stateBytes)) (λ e. lengths)
     (λ even. by-test O (stateFault (sizes score .agents) state) (λ e. unlawful)

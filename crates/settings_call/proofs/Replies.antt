@@ -10,7 +10,7 @@ use lib.ListN.{length, replicate}
 use Rattle.laws.proofs.Booleans.{cond-true, cond-false}
 use Rattle.format.specs.Decode.{sizes, decode}
 use Rattle.check_verdicts.specs.declared.Verdict.{Verdict}
-use Rattle.check_verdicts.specs.Verdicts.{numberOf}
+use Rattle.check_verdicts.specs.Verdicts.{verdictNumber}
 use Rattle.check_score.specs.Check.{verdict}
 use Rattle.check_score.proofs.Stages.{passed}
 use Rattle.check_score.proofs.Stages as stages
@@ -28,11 +28,11 @@ use Rattle.settings_call.specs.declared.Reply.the-variants.{Score as Tur
 use Rattle.settings_call.specs.SettingsCall.{pressFault, reply}
 
 module _ (score given switches : List ℕ) (k : ℕ) where
-  pub turned : {v : Verdict} {n : ℕ} → n ≡ numberOf v → v ≡ verdict score → (n ≡ 0 → ⊥) → Turned v ≡ reply score given switches k
+  pub turned : {v : Verdict} {n : ℕ} → n ≡ verdictNumber v → v ≡ verdict score → (n ≡ 0 → ⊥) → Turned v ≡ reply score given switches k
   unfolding reply
   turned number-is is not-zero = stages.turned score number-is is Turned _ not-zero
 
-  module _ (accepted : numberOf (verdict score) ≡ 0) where
+  module _ (accepted : verdictNumber (verdict score) ≡ 0) where
     pub lengths : not (eqb (length given) stateBytes) ≡ true → Lengths ≡ reply score given switches k
     unfolding reply
     lengths e = passed score accepted _ (cond-true _ e refl)

@@ -10,7 +10,7 @@ use Prim.Native.Nat.{ℕ, suc}
 use lib.Dec.{eqb, leb}
 use lib.ListN.{length}
 use Rattle.format.specs.Decode.{sizes, decode}
-use Rattle.check_verdicts.specs.Verdicts.{numberOf}
+use Rattle.check_verdicts.specs.Verdicts.{verdictNumber}
 use Rattle.check_score.specs.Check.{verdict}
 use Rattle.lent.specs.Lengths.{stateBytes}
 use Rattle.lent.specs.States.{stateFault, stateOf}
@@ -24,7 +24,7 @@ pressFault tokens switches k = switchFault tokens switches || leb (suc (length s
 
 unfoldable pub reply : List ℕ → List ℕ → List ℕ → ℕ → Reply
 reply score state switches k =
-    cond (not (eqb (numberOf (verdict score)) 0)) (Turned (verdict score))
+    cond (not (eqb (verdictNumber (verdict score)) 0)) (Turned (verdict score))
     (cond (not (eqb (length state) stateBytes)) Lengths
     (cond (stateFault (sizes score .agents) state) State
     (cond (pressFault (sizes score .tokens) switches k) Switches

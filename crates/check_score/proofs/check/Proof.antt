@@ -11,7 +11,7 @@ use Rattle.format.specs.Format.{sizesOf}
 use Rattle.format.specs.Decode.{sizes, decode}
 use Rattle.format.proofs.Decode.{sizes-few}
 use Rattle.check_verdicts.specs.declared.Verdict.{Verdict}
-use Rattle.check_verdicts.specs.Verdicts.{numberOf, orElse}
+use Rattle.check_verdicts.specs.Verdicts.{verdictNumber, orElse}
 use Rattle.check_verdicts.proofs.Verdicts.{accepted-only, orElse-accepted, orElse-refused}
 use Rattle.check_faults.specs.Faults.{lengthVerdict, headVerdict, countVerdict, firstFault}
 use Rattle.check_faults.proofs.Accepted.{length-accepted, count-accepted}
@@ -31,11 +31,11 @@ abbrev to-sizes : tie.Else3 → tie.After-sizes-of
 to-sizes c = c .before .before .before .before
 
 -- a verdict of the code, its number, and what the test of the number says of the definition's verdict
-accepts : {v w : Verdict} {n : ℕ} → v ≡ w → n ≡ numberOf v → n ≡ 0 → numberOf w ≡ 0
-accepts e k z = sym (ap numberOf e) ∙ sym k ∙ z
+accepts : {v w : Verdict} {n : ℕ} → v ≡ w → n ≡ verdictNumber v → n ≡ 0 → verdictNumber w ≡ 0
+accepts e k z = sym (ap verdictNumber e) ∙ sym k ∙ z
 
-refuses : {v w : Verdict} (rest : Verdict) {n : ℕ} → v ≡ w → n ≡ numberOf v → (n ≡ 0 → ⊥) → v ≡ orElse w rest
-refuses {v} {w} rest e k z = e ∙ sym (orElse-refused w rest (λ a. z (k ∙ ap numberOf e ∙ a)))
+refuses : {v w : Verdict} (rest : Verdict) {n : ℕ} → v ≡ w → n ≡ verdictNumber v → (n ≡ 0 → ⊥) → v ≡ orElse w rest
+refuses {v} {w} rest e k z = e ∙ sym (orElse-refused w rest (λ a. z (k ∙ ap verdictNumber e ∙ a)))
 
 -- what is still to be tried after 1, after 2 and after 3
 abbrev after-count : List ℕ → Verdict
@@ -47,7 +47,7 @@ after-head s = orElse (countVerdict (sizes s) (length (words s))) (after-count s
 abbrev after-length : List ℕ → Verdict
 after-length s = orElse (headVerdict (wordAt s 0)) (after-head s)
 
-length-passed : (c : tie.Else1) → numberOf (lengthVerdict (length (to-start c .args .s .now))) ≡ 0
+length-passed : (c : tie.Else1) → verdictNumber (lengthVerdict (length (to-start c .args .s .now))) ≡ 0
 length-passed c = accepts (c .before .before .length-verdict .ensures) (c .before .number-of .ensures) (c .if1 .left)
 
 past-length : (c : tie.Else1) → let s = to-start c .args .s .now in verdict s ≡ after-length s
@@ -79,7 +79,7 @@ count-is : (c : tie.After-count-verdict) → let s = to-start (to-length (c .bef
 count-is c = c .count-verdict .ensures ∙ ap₂ countVerdict (sizes-are (c .before .before)) (c .before .word-count .ensures)
 
 count-passed : (c : tie.Else3) → let s = to-start (to-length (to-sizes c .before)) .args .s .now in
-    numberOf (countVerdict (sizes s) (length (words s))) ≡ 0
+    verdictNumber (countVerdict (sizes s) (length (words s))) ≡ 0
 count-passed c = accepts (count-is (c .before .before)) (c .before .number-of3 .ensures) (c .if3 .left)
 
 past-count : (c : tie.Else3) → let s = to-start (to-length (to-sizes c .before)) .args .s .now in verdict s ≡ after-count s
@@ -96,7 +96,7 @@ fault-is c =
     c .first-fault .ensures ∙ ap (λ h. firstFault h 1 (drop 1 (words s))) (sizes-are at-sizes)
 
 fault-passed : (c : tie.Else4) → let s = to-start (to-length (to-sizes (c .before .before .before) .before)) .args .s .now in
-    numberOf (firstFault (sizes s) 1 (drop 1 (words s))) ≡ 0
+    verdictNumber (firstFault (sizes s) 1 (drop 1 (words s))) ≡ 0
 fault-passed c = accepts (fault-is (c .before .before)) (c .before .number-of4 .ensures) (c .if4 .left)
 
 length-verdict-requires : tie.Need-length-verdict-requires

@@ -1,7 +1,7 @@
 -- `check_verdicts::number_of`: by the verdict.
 use mathlib.Core.Path.{sym, ap}
 use borrow.Author.Needs.{needs}
-use Rattle.check_verdicts.specs.Verdicts.{numberOf}
+use Rattle.check_verdicts.specs.Verdicts.{verdictNumber}
 use Rattle.check_verdicts.proofs.number_of.Statement.{statement}
 use Rattle.check_verdicts.proofs.number_of.Tie as tie
 
@@ -30,28 +30,28 @@ enum-told-8 : tie.Need-enum-told-8
 enum-told-8 c = search needs
 
 returns : tie.Need-returns
-returns c = sym (ap numberOf (c .enum-told .given .1))
+returns c = sym (ap verdictNumber (c .enum-told .given .1))
 
 returns-2 : tie.Need-returns-2
-returns-2 c = sym (ap numberOf (c .enum-told2 .given .1))
+returns-2 c = sym (ap verdictNumber (c .enum-told2 .given .1))
 
 returns-3 : tie.Need-returns-3
-returns-3 c = sym (ap numberOf (c .enum-told3 .given .1))
+returns-3 c = sym (ap verdictNumber (c .enum-told3 .given .1))
 
 returns-4 : tie.Need-returns-4
-returns-4 c = sym (ap numberOf (c .enum-told4 .given .1))
+returns-4 c = sym (ap verdictNumber (c .enum-told4 .given .1))
 
 returns-5 : tie.Need-returns-5
-returns-5 c = sym (ap numberOf (c .enum-told5 .given .1))
+returns-5 c = sym (ap verdictNumber (c .enum-told5 .given .1))
 
 returns-6 : tie.Need-returns-6
-returns-6 c = sym (ap numberOf (c .enum-told6 .given .1))
+returns-6 c = sym (ap verdictNumber (c .enum-told6 .given .1))
 
 returns-7 : tie.Need-returns-7
-returns-7 c = sym (ap numberOf (c .enum-told7 .given .1))
+returns-7 c = sym (ap verdictNumber (c .enum-told7 .given .1))
 
 returns-8 : tie.Need-returns-8
-returns-8 c = sym (ap numberOf (c .enum-told8 .given .1))
+returns-8 c = sym (ap verdictNumber (c .enum-told8 .given .1))
 
 pub number-of-spec : {M : Type 1} → statement M
 number-of-spec =

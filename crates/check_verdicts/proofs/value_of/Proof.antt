@@ -1,7 +1,7 @@
 -- `check_verdicts::value_of`: by the verdict.
 use mathlib.Core.Path.{sym, ap}
 use borrow.Author.Needs.{needs}
-use Rattle.check_verdicts.specs.Verdicts.{valueOf}
+use Rattle.check_verdicts.specs.Verdicts.{verdictValue}
 use Rattle.check_verdicts.proofs.value_of.Statement.{statement}
 use Rattle.check_verdicts.proofs.value_of.Tie as tie
 
@@ -30,28 +30,28 @@ enum-known-v-4 : tie.Need-enum-known-v-4
 enum-known-v-4 c = search needs
 
 returns : tie.Need-returns
-returns c = sym (ap valueOf (c .enum-told .given .1))
+returns c = sym (ap verdictValue (c .enum-told .given .1))
 
 returns-2 : tie.Need-returns-2
-returns-2 c = sym (ap valueOf (c .enum-told2 .given .1))
+returns-2 c = sym (ap verdictValue (c .enum-told2 .given .1))
 
 returns-3 : tie.Need-returns-3
-returns-3 c = sym (ap valueOf (c .enum-told3 .given .1))
+returns-3 c = sym (ap verdictValue (c .enum-told3 .given .1))
 
 returns-4 : tie.Need-returns-4
-returns-4 c = sym (ap valueOf (c .enum-told4 .given .1))
+returns-4 c = sym (ap verdictValue (c .enum-told4 .given .1))
 
 returns-5 : tie.Need-returns-5
-returns-5 c = sym (ap valueOf (c .before .v .given .1))
+returns-5 c = sym (ap verdictValue (c .before .v .given .1))
 
 returns-6 : tie.Need-returns-6
-returns-6 c = sym (ap valueOf (c .before .v2 .given .1))
+returns-6 c = sym (ap verdictValue (c .before .v2 .given .1))
 
 returns-7 : tie.Need-returns-7
-returns-7 c = sym (ap valueOf (c .before .v3 .given .1))
+returns-7 c = sym (ap verdictValue (c .before .v3 .given .1))
 
 returns-8 : tie.Need-returns-8
-returns-8 c = sym (ap valueOf (c .before .v4 .given .1))
+returns-8 c = sym (ap verdictValue (c .before .v4 .given .1))
 
 pub value-of-spec : {M : Type 1} → statement M
 value-of-spec =

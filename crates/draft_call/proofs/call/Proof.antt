@@ -1,7 +1,7 @@
 -- `call`: each test in the order of the table, then the translation.
 use mathlib.Core.Path.{_≡_}
 use borrow.Author.Needs.{needs}
-use Rattle.check_verdicts.specs.Verdicts.{numberOf}
+use Rattle.check_verdicts.specs.Verdicts.{verdictNumber}
 use Rattle.check_verdicts.proofs.Verdicts.{accepted-only}
 use Rattle.check_score.proofs.Stages as stages
 use Rattle.draft_format.specs.DraftFile.{asWhens, draftVerdict}
@@ -16,7 +16,7 @@ to-start c = c .before .before .before .before
 abbrev to-draft : tie.After-slice-known2 → tie.Else1
 to-draft c = c .before .before .before .before .before
 
-accepted : (c : tie.Else1) → numberOf (draftVerdict (to-start (c .before) .args .draft .now)) ≡ 0
+accepted : (c : tie.Else1) → verdictNumber (draftVerdict (to-start (c .before) .args .draft .now)) ≡ 0
 accepted c = stages.accepted (asWhens (to-start (c .before) .args .draft .now)) (c .before .number-of .ensures) (c .before .before .check .ensures) (c .if1 .left)
 
 check-requires : tie.Need-check-requires

@@ -2,7 +2,7 @@
 use mathlib.Core.Path.{subst}
 use borrow.Author.Needs.{needs}
 use Rattle.draft_format.specs.DraftFile.{decodeDraft}
-use Rattle.draft_counts.specs.Gathered.{Gathered}
+use Rattle.draft_gathering.specs.Gathered.{Gathered}
 use Rattle.draft_gathering.specs.Gathering.{GatheredBy}
 use Rattle.draft_call.proofs.Exits.{large, writes}
 use Rattle.draft_call.proofs.translate.Statement.{statement}

@@ -14,17 +14,17 @@ use native.Mathlib.Omega.{arith}
 use borrow.Author.Needs.{needs}
 use borrow.Fn.Kinds.{In}
 use borrow.Fn.PlainCycle.{Measures, is, falls, and}
-use Rattle.draft_language.specs.Draft.{Draft, writtenAt}
+use Rattle.draft_language.specs.Draft.{Draft, draftAgentAt}
 use Rattle.format.specs.Decode.{sizes}
 use Rattle.draft_pairs.specs.Pairs.{pair, setIn}
 use Rattle.draft_pairs.proofs.TokenSets.{set-bound}
-use Rattle.draft_row.specs.Rows.{rowValue}
+use Rattle.draft_pairs.specs.Rows.{rowValue}
 use Rattle.draft_plain.specs.Places.{procedureAt, target, leadsTo}
 use Rattle.draft_plain.proofs.Places.{KnownAgent}
 use Rattle.draft_format.specs.DraftFile.{decodeDraft}
-use Rattle.draft_targets.specs.Referring.{referencesOf}
-use Rattle.draft_targets.proofs.Translatable.{agents-many, roots-many, root-below}
-use Rattle.draft_targets.proofs.Targets.{target-agent}
+use Rattle.draft_copying.specs.Referring.{referencesOf}
+use Rattle.draft_copying.proofs.Translatable.{agents-many, roots-many, root-below}
+use Rattle.draft_copying.proofs.Leading.{target-agent}
 use Rattle.draft_copying.proofs.Copies.{Ready, ready-given, ready-asked, all-none, all-one, all-then, all-over, copied-ready, Entering, entered-ready, entered-higher, entered-led, entered-over, copied-there, copied-all}
 use Rattle.draft_copying.proofs.Reading.{procedure-leads, is-nothing, Reading, reading-below, reading-led, reading-copied}
 use Rattle.draft_copying.proofs.copy_agent.Reads as copy-agent
@@ -33,13 +33,13 @@ use Rattle.draft_copying.proofs.+copy_agent+copy_procedure.Lts-copy_age
 use Rattle.draft_copying.proofs.copy_procedure.Reads as copy-procedure
 use Rattle.draft_copying.proofs.copy_procedure.Kinds as copy-procedure-kinds
 use Rattle.draft_copying.proofs.+copy_agent+copy_procedure.Lts-copy_procedure as copy-procedure-lts
-use Rattle.draft_format.proofs.written_at.Reads as written-at-reads
+use Rattle.draft_format.proofs.draft_agent_at.Reads as draft-agent-at-reads
 use Rattle.format.proofs.root_of.Reads as root-of-reads
 use Rattle.draft_table.proofs.enter.Reads as enter-reads
-use Rattle.draft_row.proofs.number_of.Reads as number-of-reads
-use Rattle.draft_row.proofs.renumbered.Reads as renumbered-reads
-use Rattle.draft_targets.proofs.references_of.Reads as references-of-reads
-use Rattle.draft_targets.proofs.target.Reads as target-reads
+use Rattle.draft_pairs.proofs.row.number_of.Reads as number-of-reads
+use Rattle.draft_pairs.proofs.row.renumbered.Reads as renumbered-reads
+use Rattle.draft_copying.proofs.targets.references_of.Reads as references-of-reads
+use Rattle.draft_copying.proofs.targets.target.Reads as target-reads
 use Rattle.draft_copying.proofs.+copy_agent+copy_procedure.{statement}
 use Rattle.draft_copying.proofs.+copy_agent+copy_procedure.Tie.{close}
 
@@ -70,8 +70,8 @@ module _ (t : ℕ) where
     enter-reads.Learnt,
     number-of-reads.Asked,
     number-of-reads.Learnt,
-    written-at-reads.Asked,
-    written-at-reads.Learnt,
+    draft-agent-at-reads.Asked,
+    draft-agent-at-reads.Learnt,
     references-of-reads.Asked,
     references-of-reads.Learnt,
     agent-below,
@@ -124,7 +124,7 @@ module _ (t : ℕ) where
         entering = agent-entering (to-enter c);
         room = c .before .before .before .if2 .left;
         agent = agent-known (to-enter c);
-        is = c .references-of .ensures ∙ ap referencesOf (c .before .written-at .ensures ∙ ap (writtenAt (agent-draft (to-start (to-enter c)))) (c .before .before .number-of .ensures));
+        is = c .references-of .ensures ∙ ap referencesOf (c .before .draft-agent-at .ensures ∙ ap (draftAgentAt (agent-draft (to-start (to-enter c)))) (c .before .before .number-of .ensures));
       }
 
   agent-ready : (c : copy-agent-lts.After-references-of agent-calls agent-at copy-agent.Post) → Ready (agent-draft (to-start (to-enter c))) (to-enter c .enter .result) (to-enter c .enter .last .0)
@@ -148,8 +148,8 @@ module _ (t : ℕ) where
   agent-number-of-requires : copy-agent-lts.Need-number-of-requires agent-calls agent-at copy-agent.Post
   agent-number-of-requires c κs = tt
 
-  agent-written-at-requires : copy-agent-lts.Need-written-at-requires agent-calls agent-at copy-agent.Post
-  agent-written-at-requires c κs =
+  agent-draft-agent-at-requires : copy-agent-lts.Need-draft-agent-at-requires agent-calls agent-at copy-agent.Post
+  agent-draft-agent-at-requires c κs =
       let b = c .before .before .before .before .before .before .before in
       let known : c .number-of .result < sizes (b .args .draft .now) .agents = omega (arith, c .number-of .ensures, agent-known (c .before .before .before) .known, agents-many (b .pre .1 .0)) in
       (omega (arith, b .pre .1 .0 .whole), known)
@@ -274,7 +274,7 @@ pub +copy-agent+copy-procedure-spec : {M : Type 1} → statement M
     (agent-returns t)
     (agent-returns-2 t)
     (agent-number-of-requires t)
-    (agent-written-at-requires t)
+    (agent-draft-agent-at-requires t)
     (agent-references-of-requires t)
     (agent-enum-told t)
     (agent-enum-known-body t)

@@ -6,7 +6,7 @@ use lib.Pow.{pow-pos}
 use borrow.Author.Needs.{needs}
 use Rattle.draft_pairs.specs.Pairs.{pair, setIn}
 use Rattle.draft_pairs.proofs.TokenSets.{set-pair}
-use Rattle.draft_row.specs.Rows.{rowValue}
+use Rattle.draft_pairs.specs.Rows.{rowValue}
 use Rattle.draft_plain.specs.Places.{procedureAt}
 use Rattle.draft_plain.specs.Led.{Led, first}
 use Rattle.draft_format.specs.DraftFile.{decodeDraft}

@@ -9,12 +9,12 @@ use lib.Seq.{take-all}
 use Rattle.draft_language.proofs.Carries.{memberRule}
 use Rattle.draft_pairs.specs.TokenSets.{members}
 use Rattle.draft_pairs.specs.Pairs.{setIn}
-use Rattle.draft_row.specs.Rows.{rowValue}
+use Rattle.draft_pairs.specs.Rows.{rowValue}
 use Rattle.encoding.specs.Encode.{ruleWord}
 use Rattle.bits.specs.Put.{put}
 use Rattle.bits.proofs.Put.{put-none}
 use Rattle.draft_plain.specs.Plain.{memberRules}
-use Rattle.draft_counts.specs.Gathered.{setsIn}
+use Rattle.draft_gathering.specs.Gathered.{setsIn}
 use Rattle.draft_rules.specs.SetRules.{setRules}
 use Rattle.draft_rules.proofs.Members.{sets-count, sets-put, sets-room}
 use Rattle.draft_rules.proofs.Asked.{sets-many, tokens-fit, set-members, set-known}

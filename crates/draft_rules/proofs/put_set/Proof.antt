@@ -8,7 +8,7 @@ use native.Mathlib.Omega.{arith}
 use lib.ListN.{length}
 use Rattle.draft_pairs.specs.TokenSets.{holds, members}
 use Rattle.draft_pairs.specs.Pairs.{setIn}
-use Rattle.draft_row.specs.Rows.{rowValue}
+use Rattle.draft_pairs.specs.Rows.{rowValue}
 use Rattle.bits.specs.Put.{put}
 use Rattle.bits.proofs.Put.{put-none}
 use Rattle.draft_rules.proofs.Members.{ruleWords, heldBelow, held-same, held-count, held-put, held-all, held-room}

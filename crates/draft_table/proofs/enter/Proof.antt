@@ -7,7 +7,7 @@ use borrow.Author.Needs.{needs}
 use borrow.Author.Tests.{ltb-true, ltb-false, not-true, not-false}
 use native.Mathlib.Omega.{arith}
 use lib.ListN.{length, getD}
-use Rattle.draft_row.specs.Rows.{rowValue}
+use Rattle.draft_pairs.specs.Rows.{rowValue}
 use Rattle.draft_table.specs.Tables.{keys}
 use Rattle.draft_table.proofs.Tables.{placed-absent, keys-length, keys-at, entered-present, entered-full, entered-new}
 use Rattle.draft_table.proofs.enter.Statement.{statement}

@@ -7,7 +7,7 @@ use borrow.Author.Tests.{ltb-true, ltb-false}
 use native.Mathlib.Omega.{arith}
 use lib.Dec.{ltb}
 use lib.ListN.{length, getD}
-use Rattle.draft_row.specs.Rows.{rowValue}
+use Rattle.draft_pairs.specs.Rows.{rowValue}
 use Rattle.draft_table.specs.Tables.{keys}
 use Rattle.draft_table.proofs.Tables.{keys-length, Between, between-all, between-higher, between-lower, between-none}
 use Rattle.draft_table.proofs.place.Statement.{statement}

@@ -7,11 +7,11 @@ use native.Mathlib.Omega.{arith}
 use lib.ListN.{getD}
 use Rattle.draft_language.specs.Draft.{rootOf}
 use Rattle.draft_pairs.specs.Pairs.{numberIn, setIn}
-use Rattle.draft_row.specs.Rows.{rowValue}
+use Rattle.draft_pairs.specs.Rows.{rowValue}
 use Rattle.draft_plain.specs.Places.{target}
 use Rattle.draft_plain.proofs.PlainScore.{placeOf}
 use Rattle.draft_format.specs.DraftFile.{decodeDraft}
-use Rattle.draft_counts.specs.Gathered.{agentsIn}
+use Rattle.draft_gathering.specs.Gathered.{agentsIn}
 use Rattle.draft_words.proofs.Pairs.{RootKnown, root-known, roots-same}
 use Rattle.draft_words.proofs.root_at.Statement.{statement}
 use Rattle.draft_words.proofs.root_at.Tie as tie

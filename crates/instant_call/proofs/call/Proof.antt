@@ -14,7 +14,7 @@ use Rattle.format.specs.Decode.{sizes, decode}
 use Rattle.format.specs.Playable.{Playable}
 use Rattle.format.proofs.Decode.{decode-tokens, sizes-few, playable-agents}
 use Rattle.instant_prepared.specs.Prepared.{PreparedFrom}
-use Rattle.check_verdicts.specs.Verdicts.{numberOf}
+use Rattle.check_verdicts.specs.Verdicts.{verdictNumber}
 use Rattle.check_score.specs.Check.{verdict}
 use Rattle.check_score.proofs.Stages.{by-head}
 use Rattle.check_score.proofs.Stages as stages
@@ -62,7 +62,7 @@ to-hand-over c = c .before .before .before .before .before .before
 abbrev buffers : tie.Start → Lent
 buffers b = lent (b .args .state .now) (b .args .store .now) (b .args .output .now) (b .args .scratch .now)
 
-accepted : (c : tie.Else1) → numberOf (verdict (to-start (c .before) .args .score .now)) ≡ 0
+accepted : (c : tie.Else1) → verdictNumber (verdict (to-start (c .before) .args .score .now)) ≡ 0
 accepted c = stages.accepted (to-start (c .before) .args .score .now) (c .before .number-of .ensures) (c .before .before .check .ensures) (c .if1 .left)
 
 lengths-tested : (c : tie.After-wrong-length) → let b = to-start (c .before .before) in c .wrong-length .result ≡ lengthFault (b .args .input .now) (buffers b)

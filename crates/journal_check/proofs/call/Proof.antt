@@ -6,7 +6,7 @@ use lib.ListN.{replicate}
 use Rattle.format.specs.Decode.{sizes}
 use Rattle.format.specs.Playable.{Playable}
 use Rattle.instant_prepared.specs.Prepared.{PreparedFrom}
-use Rattle.check_verdicts.specs.Verdicts.{numberOf}
+use Rattle.check_verdicts.specs.Verdicts.{verdictNumber}
 use Rattle.check_score.specs.Check.{verdict}
 use Rattle.check_score.proofs.Stages.{by-head}
 use Rattle.check_score.proofs.Stages as stages
@@ -28,7 +28,7 @@ to-form c = c .before .before
 abbrev to-good : tie.After-check-list-arg → tie.After-enum-told2
 to-good c = c .before .before .before .before .before .before
 
-accepted : (c : tie.Else1) → numberOf (verdict (to-start (c .before) .args .score .now)) ≡ 0
+accepted : (c : tie.Else1) → verdictNumber (verdict (to-start (c .before) .args .score .now)) ≡ 0
 accepted c = stages.accepted (to-start (c .before) .args .score .now) (c .before .number-of .ensures) (c .before .before .check .ensures) (c .if1 .left)
 
 playable : (c : tie.Else1) → Playable (to-start (c .before) .args .score .now)

@@ -6,7 +6,7 @@ use borrow.Author.Needs.{needs}
 use native.Mathlib.Omega.{arith}
 use lib.ListN.{length}
 use Rattle.words.specs.Word.{words}
-use Rattle.journal_form.specs.Form.{statusOf}
+use Rattle.journal_form.specs.Form.{statusIn}
 use Rattle.journal_words.specs.History.{instantWords}
 use Rattle.journal_words.specs.Formed.{Formed}
 use Rattle.journal_check.proofs.Others.{differ-so}
@@ -37,7 +37,7 @@ returns c =
     let b = c .before .before .before .before .before .before .before in
     let said = c .before .before .before .before .tokens-in .ensures in
     differ-so (words (b .args .here .now)) (b .pre .0) (b .args .status) (b .pre .1 .0) (b .args .out .now) (b .pre .1 .1)
-    (c .before .before .number .result) (c .any-other .result) (c .before .before .number .ensures ∙ ap statusOf (c .before .before .before .word-at .ensures))
+    (c .before .before .number .result) (c .any-other .result) (c .before .before .number .ensures ∙ ap statusIn (c .before .before .before .word-at .ensures))
     (λ e. sym said ∙ c .any-other .ensures .0 e, λ e. c .any-other .ensures .1 (said ∙ e))
 
 pub differs-from-spec : {M : Type 1} → statement M

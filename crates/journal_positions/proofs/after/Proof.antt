@@ -4,8 +4,8 @@ use Prim.Native.Nat.{_+_, _-_}
 use borrow.Author.Needs.{needs}
 use native.Mathlib.Omega.{arith}
 use lib.ListN.{length}
-use Rattle.journal_positions.specs.Places.{sizeAt, placeAfter}
-use Rattle.journal_positions.proofs.Places.{size-fits, size-shown, place-here, place-more, place-none}
+use Rattle.journal_positions.specs.Positions.{sizeAt, placeAfter}
+use Rattle.journal_positions.proofs.Positions.{size-fits, size-shown, place-here, place-more, place-none}
 use Rattle.journal_positions.proofs.after.Statement.{statement}
 use Rattle.journal_positions.proofs.after.Tie as tie
 

@@ -1,7 +1,7 @@
 -- `part_at`: the journal's part at the position.
 use mathlib.Core.Path.{_∙_}
 use borrow.Author.Needs.{needs}
-use Rattle.journal_positions.proofs.Places.{size-part}
+use Rattle.journal_positions.proofs.Positions.{size-part}
 use Rattle.journal_positions.proofs.part_at.Statement.{statement}
 use Rattle.journal_positions.proofs.part_at.Tie as tie
 

@@ -1,6 +1,6 @@
 -- `start_of`: by the form.
 use borrow.Author.Needs.{needs}
-use Rattle.journal_positions.proofs.Places.{start-good, start-bytes, start-word}
+use Rattle.journal_positions.proofs.Positions.{start-good, start-bytes, start-word}
 use Rattle.journal_positions.proofs.start_of.Statement.{statement}
 use Rattle.journal_positions.proofs.start_of.Tie as tie
 

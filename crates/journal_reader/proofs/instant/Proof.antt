@@ -34,7 +34,7 @@ use denote.Triple.Table.{entered, cited}
 use denote.Triple.Walked.{says, Stays, stay-none, stay-none-slice, walkOf, goes-none, goes-none-slice, Walks, ends-at, walked, walk-meets}
 use denote.Exit.{yes}
 use denote.Triple.Clauses.{ensured, lasts}
-use Rattle.journal_positions.specs.Places.{shownAt, placeOf}
+use Rattle.journal_positions.specs.Positions.{shownAt, placeOf}
 use Rattle.journal_reader.specs.Reading.{made, movedBy}
 use Rattle.journal_reader.specs.declared.Reader.{Reader}
 use Rattle.journal_reader.proofs.Reader as T

@@ -33,7 +33,7 @@ use denote.Triple.Table.{entered, cited}
 use denote.Triple.Walked.{says, Stays, stay-none, walkOf, goes-none, Walks, ends-at, walked, walk-meets}
 use denote.Exit.{yes}
 use denote.Triple.Clauses.{ensured, lasts}
-use Rattle.journal_positions.specs.Places.{placeAfter}
+use Rattle.journal_positions.specs.Positions.{placeAfter}
 use Rattle.journal_positions.proofs.after as after
 use Rattle.journal_positions.proofs.after.Symbol as after-def
 use Rattle.journal_positions.proofs.after.Symbol.{name as #after}

@@ -39,8 +39,8 @@ use Rattle.journal_form.specs.declared.Form.{Form}
 use Rattle.journal_form.specs.Form.{formOf}
 use Rattle.journal_form.proofs.Form as F
 use Rattle.journal_form.proofs.Form.Laws as F′
-use Rattle.journal_positions.specs.Places.{startBy}
-use Rattle.journal_positions.proofs.Places.{start-of as start-at}
+use Rattle.journal_positions.specs.Positions.{startBy}
+use Rattle.journal_positions.proofs.Positions.{start-of as start-at}
 use Rattle.journal_positions.proofs.form_of as form-of
 use Rattle.journal_positions.proofs.form_of.Symbol as form-of-def
 use Rattle.journal_positions.proofs.form_of.Symbol.{name as #form-of}

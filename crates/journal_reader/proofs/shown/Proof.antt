@@ -32,7 +32,7 @@ use denote.Triple.Table.{entered, cited}
 use denote.Triple.Walked.{says, Stays, stay-none, walkOf, goes-none, Walks, ends-at, walked, walk-meets}
 use denote.Exit.{yes}
 use denote.Triple.Clauses.{ensured, lasts}
-use Rattle.journal_positions.specs.Places.{shownAt}
+use Rattle.journal_positions.specs.Positions.{shownAt}
 use Rattle.journal_positions.proofs.part_at as part-at
 use Rattle.journal_positions.proofs.part_at.Symbol as part-at-def
 use Rattle.journal_positions.proofs.part_at.Symbol.{name as #part-at}

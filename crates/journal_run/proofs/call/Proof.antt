@@ -7,7 +7,7 @@ use mathlib.Core.Bool.{false}
 use Rattle.format.specs.Decode.{sizes}
 use Rattle.format.specs.Playable.{Playable}
 use Rattle.instant_prepared.specs.Prepared.{PreparedFrom}
-use Rattle.check_verdicts.specs.Verdicts.{numberOf}
+use Rattle.check_verdicts.specs.Verdicts.{verdictNumber}
 use Rattle.check_score.specs.Check.{verdict}
 use Rattle.check_score.proofs.Stages.{by-head}
 use Rattle.check_score.proofs.Stages as stages
@@ -43,7 +43,7 @@ to-run c = c .before .before .before .before .before .before
 abbrev buffers : tie.Start → Lent
 buffers b = lent (b .args .state .now) (b .args .journal .now) (b .args .scratch .now)
 
-accepted : (c : tie.Else1) → numberOf (verdict (to-start (c .before) .args .score .now)) ≡ 0
+accepted : (c : tie.Else1) → verdictNumber (verdict (to-start (c .before) .args .score .now)) ≡ 0
 accepted c = stages.accepted (to-start (c .before) .args .score .now) (c .before .number-of .ensures) (c .before .before .check .ensures) (c .if1 .left)
 
 long : (c : tie.Else2) → lengthFault (buffers (to-start (to-score c .before))) ≡ false

@@ -8,7 +8,7 @@ use borrow.Author.Needs.{needs}
 use native.Mathlib.Omega.{arith}
 use lib.ListN.{length, length-set}
 use lib.Pow.{pow-mono}
-use Rattle.lent_maps.proofs.Written.{mapWritten, map-none, map-more, map-all}
+use Rattle.lent_maps.proofs.MapWriting.{mapWritten, map-none, map-more, map-all}
 use Rattle.lent_maps.proofs.write_map.Statement.{statement}
 use Rattle.lent_maps.proofs.write_map.Tie as tie
 

@@ -21,8 +21,11 @@ abbrev μ-loop : tie.MeasureT-loop
 μ-loop fd buf₀ done₀ buf done = length buf - done
 
 -- Stations of the walk, each from a later place.
-abbrev to-loop : tie.Then2 Inv-loop μ-loop → tie.At-loop Inv-loop μ-loop
-to-loop c = c .before .before .before .before .before .before .before .before .before .before
+abbrev to-loop : tie.After-read Inv-loop μ-loop → tie.At-loop Inv-loop μ-loop
+to-loop c = c .before .before .before
+
+abbrev to-read : tie.Then2 Inv-loop μ-loop → tie.After-read Inv-loop μ-loop
+to-read c = c .before .before .before .before .before .before .before
 
 loop-holds : tie.Need-loop-holds Inv-loop μ-loop
 loop-holds c = search needs
@@ -62,8 +65,8 @@ same-length-2 c = search needs
 
 returns-2 : tie.Need-returns-2 Inv-loop μ-loop
 returns-2 c =
-    let l = to-loop c .loop in
-    let r = c .before .before .before .before .before .before .before .read in
+    let l = to-loop (to-read c) .loop in
+    let r = to-read c .read in
     counted _ (l .done) (omega (arith, l .inv .0, same-len-mid (l .done) (length (l .buf) - l .done) (l .buf) (r .last .1 .0) (r .kept .1 .0)))
 
 add-done : tie.Need-add-done Inv-loop μ-loop

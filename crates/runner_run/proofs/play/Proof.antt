@@ -9,8 +9,11 @@ use Rattle.runner_run.proofs.play.Tie as tie
 abbrev to-start : tie.After-start → tie.Start
 to-start c = c .before .before .before .before
 
-abbrev to-standing : tie.After-number-in → tie.After-start
-to-standing c = c .before .before .before .before .before .before .before .before .before
+abbrev to-standing : tie.After-score-run → tie.After-start
+to-standing c = c .before .before .before .before
+
+abbrev to-run : tie.After-number-in → tie.After-score-run
+to-run c = c .before .before .before .before .before
 
 start-requires : tie.Need-start-requires
 start-requires c κs = search needs
@@ -32,9 +35,10 @@ same-length c = search needs
 
 returns : tie.Need-returns
 returns c =
-    let at-standing = to-standing c in
+    let at-run = to-run c in
+    let at-standing = to-standing at-run in
     let b = to-start at-standing in
-    let r = c .before .before .before .before .before .score-run in
+    let r = at-run .score-run in
     played (b .args .score .now) (b .args .inputs .now) _ (b .args .journal .now) (at-standing .start .ensures .1) (lent (r .last .1 .0) (r .last .1 .1 .1 .0) (r .last .1 .1 .1 .1 .0)) (r .result) (r .ensures) (c .number-in .ensures)
 
 pub play-spec : {M : Type 1} → statement M

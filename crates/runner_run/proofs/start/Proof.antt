@@ -1,7 +1,7 @@
 -- `start`: the state of an accepted score.
 use mathlib.Core.Path.{_≡_, refl, ap, _∙_}
 use borrow.Author.Needs.{needs}
-use Rattle.check_verdicts.specs.Verdicts.{numberOf}
+use Rattle.check_verdicts.specs.Verdicts.{verdictNumber}
 use Rattle.check_score.proofs.Stages.{accepted, playable}
 use Rattle.runner_run.proofs.start.Statement.{statement}
 use Rattle.runner_run.proofs.start.Tie as tie
@@ -25,7 +25,7 @@ returns : tie.Need-returns
 returns c = search needs
 
 returns-2 : tie.Need-returns-2
-returns-2 c = (refl, λ z. absurd (c .if1 .left (c .before .number-of .ensures ∙ ap numberOf (c .before .before .check .ensures) ∙ z)))
+returns-2 c = (refl, λ z. absurd (c .if1 .left (c .before .number-of .ensures ∙ ap verdictNumber (c .before .before .check .ensures) ∙ z)))
 
 pub start-spec : {M : Type 1} → statement M
 start-spec =

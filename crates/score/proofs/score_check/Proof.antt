@@ -1,6 +1,6 @@
 -- `score_check`: the verdict, packed.
 use mathlib.Core.Path.{ap, _∙_}
-use Rattle.check_verdicts.specs.Verdicts.{numberOf, valueOf}
+use Rattle.check_verdicts.specs.Verdicts.{verdictNumber, verdictValue}
 use Rattle.check_verdicts.proofs.Verdicts.{number-few}
 use Rattle.check_score.specs.Check.{verdict}
 use Rattle.check_score.proofs.Values.{verdict-small}
@@ -17,7 +17,7 @@ check-requires c κs = search needs
 of-verdict-requires : tie.Need-of-verdict-requires
 of-verdict-requires c κs =
     let s = c .before .before .args .score .now in
-    rw (c .check .ensures) (reply-fits (numberOf (verdict s)) (valueOf (verdict s)) (number-few (verdict s)) (verdict-small s))
+    rw (c .check .ensures) (reply-fits (verdictNumber (verdict s)) (verdictValue (verdict s)) (number-few (verdict s)) (verdict-small s))
 
 returns : tie.Need-returns
 returns c = record { answered = c .of-verdict .ensures ∙ ap (λ v. packed (ofVerdict v)) (c .before .check .ensures) }

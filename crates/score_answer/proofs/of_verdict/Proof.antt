@@ -3,7 +3,7 @@ use mathlib.Core.Path.{_≡_, refl, sym, ap, ap₂, subst, _∙_}
 use mathlib.Core.Bool.{cond}
 use Prim.Native.Nat.{ℕ, zero, suc, _^_, _<_}
 use native.Mathlib.Omega.{arith}
-use Rattle.check_verdicts.specs.Verdicts.{numberOf, valueOf}
+use Rattle.check_verdicts.specs.Verdicts.{verdictNumber, verdictValue}
 use Rattle.check_verdicts.specs.declared.Verdict.the-variants.{Accepted}
 use Rattle.check_verdicts.proofs.Verdicts.{accepted-only, number-few}
 use Rattle.score_answer.specs.Answer.{refused, reply, packed, Fits}
@@ -38,8 +38,8 @@ refusal-requires : tie.Need-refusal-requires
 refusal-requires c κs =
     let v = c .before .before .before .args .verdict in
     let n = c .before .before .number-of .ensures in
-    let few : numberOf v < 13 = omega (arith, number-few v) in
-    let h : valueOf v < 2 ^ 24 = small (numberOf v) (valueOf v) (λ z. c .before .if1 .left (n ∙ z)) few (c .before .before .before .pre) in
+    let few : verdictNumber v < 13 = omega (arith, number-few v) in
+    let h : verdictValue v < 2 ^ 24 = small (verdictNumber v) (verdictValue v) (λ z. c .before .if1 .left (n ∙ z)) few (c .before .before .before .pre) in
     (omega (arith, n), (not-wide (c .before .before .number-of .result) (omega (arith, n)), omega (arith, c .value-of .ensures)))
 
 returns-2 : tie.Need-returns-2
@@ -48,7 +48,7 @@ returns-2 c =
     let n = c .before .before .before .number-of .ensures in
     c .refusal .ensures
     ∙ ap₂ (λ m w. packed (refused m w)) n (c .before .value-of .ensures)
-    ∙ ap packed (refused-reply (numberOf v) (valueOf v) (λ z. c .before .before .if1 .left (n ∙ z)))
+    ∙ ap packed (refused-reply (verdictNumber v) (verdictValue v) (λ z. c .before .before .if1 .left (n ∙ z)))
 
 pub of-verdict-spec : {M : Type 1} → statement M
 of-verdict-spec = tie.close (tie.spec number-of-requires returns value-of-requires refusal-requires returns-2)

@@ -10,7 +10,7 @@ use Rattle.laws.proofs.Booleans.{neither}
 use Rattle.format.specs.Decode.{sizes}
 use Rattle.format.specs.Playable.{Playable}
 use Rattle.instant_prepared.specs.Prepared.{PreparedFrom}
-use Rattle.check_verdicts.specs.Verdicts.{numberOf}
+use Rattle.check_verdicts.specs.Verdicts.{verdictNumber}
 use Rattle.check_score.specs.Check.{verdict}
 use Rattle.check_score.proofs.Stages.{by-head}
 use Rattle.check_score.proofs.Stages as stages
@@ -39,7 +39,7 @@ to-state c = c .before .before
 abbrev to-switches : tie.After-try-settings → tie.Else4
 to-switches c = c .before .before .before .before .before .before
 
-accepted : (c : tie.Else1) → numberOf (verdict (to-start (c .before) .args .score .now)) ≡ 0
+accepted : (c : tie.Else1) → verdictNumber (verdict (to-start (c .before) .args .score .now)) ≡ 0
 accepted c = stages.accepted (to-start (c .before) .args .score .now) (c .before .number-of .ensures) (c .before .before .check .ensures) (c .if1 .left)
 
 playable : (c : tie.Else1) → Playable (to-start (c .before) .args .score .now)

@@ -1,4 +1,0 @@
-pub mod Members
-pub mod Keys
-pub mod Asked
-pub mod Entering

@@ -1,3 +1,0 @@
-pub mod Translatable
-pub mod Targets
-pub mod Referring
