@@ -23,8 +23,7 @@ use borrow.Author.Tests.{leb-true, le-leb}
 use Rattle.laws.specs.Sets.{below, keep, any, has}
 use Rattle.laws.proofs.Booleans.{true_is_false}
 use Rattle.laws.proofs.Sets.{any_some, some_any, on_keep, keep_kept, keep_agrees, below_lt, lt_below, member_has, not_has}
-use Rattle.flags.specs.Flags.{flags_of}
-use Rattle.flags.specs.Members.{set_of}
+use Rattle.flags.specs.Flags.{set_of, flags_of}
 use Rattle.flags.proofs.Flags.{flag_member, member_flag, flags_of_length, flags_of_flag}
 use Rattle.bits.specs.Bits.{bit_at}
 use Rattle.bits.specs.Spread.{Spread}

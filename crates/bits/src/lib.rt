@@ -1,8 +1,7 @@
 // Bits as flags: spread from a word, gathered to one, looked at from a number on; a word put into bytes.
-ghost use Rattle.std.specs.Prelude.{◌≡◌, false, not, [], ◌∷◌, ◌++◌, ℕ, ◌+◌, ◌*◌, ◌-◌, ◌/◌, ◌^◌, ◌<◌, ◌≤◌, length, replicate, get_or, take, drop, eqb, leb};
+ghost use Rattle.std.specs.Prelude.{◌≡◌, false, not, [], ◌∷◌, ◌++◌, ℕ, ◌+◌, ◌*◌, ◌-◌, ◌/◌, ◌^◌, ◌≤◌, length, replicate, get_or, take, drop, eqb, leb};
 ghost use Rattle.laws.specs.Sets.{any};
-ghost use Rattle.words.specs.Word.{field};
-ghost use Rattle.flags.specs.Members.{set_of};
+ghost use Rattle.flags.specs.Flags.{set_of};
 ghost use Rattle.bits.specs.Bits.{bits_value, bytes_of};
 ghost use Rattle.bits.specs.Spread.{Spread};
 
@@ -55,18 +54,10 @@ pub fn put_word(bytes: &mut [u8], i: usize, w: u32)
     ensures { bytes.new ≡ take (4 * i) bytes.old ++ bytes_of (w ∷ []) ++ drop (4 * i + 4) bytes.old }
 {
     let at = 4 * i;
-    bytes[at] = byte_from(w, 0);
-    bytes[at + 1] = byte_from(w, 8);
-    bytes[at + 2] = byte_from(w, 16);
-    bytes[at + 3] = byte_from(w, 24);
-}
-
-// The byte of a word from a lowest bit on.
-fn byte_from(w: u32, lowest: u32) -> u8
-    requires { lowest < 32 }
-    ensures { result ≡ field w lowest 8 }
-{
-    words::bits(w, lowest, 8) as u8
+    bytes[at] = (w % 256) as u8;
+    bytes[at + 1] = ((w >> 8) % 256) as u8;
+    bytes[at + 2] = ((w >> 16) % 256) as u8;
+    bytes[at + 3] = ((w >> 24) % 256) as u8;
 }
 
 // Whether a word has a bit from a number on, its own bits being numbered from a base on.

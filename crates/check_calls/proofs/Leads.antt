@@ -8,12 +8,11 @@ use mathlib.Core.Logic.{◌⊎◌, inl, inr, ⊎_elim}
 use Prim.Native.Nat.{ℕ}
 use borrow.Author.Tests.{eqb-true, eq-eqb}
 use lib.ListN.{get_or}
-use Rattle.laws.specs.Sets.{holds}
 use Rattle.tcc.specs.Score.{Score, agent_at, parts_of}
 use Rattle.tcc.specs.Unguarded.{Leads, calls, by_first, by_second, by_body}
 use Rattle.tcc.specs.declared.Agent.{Agent}
 use Rattle.tcc.specs.declared.Agent.TheVariants.{Skip, Abort, Tell, Parallel, When, Next, Unless, Call}
-use Rattle.check_calls.specs.Calls.{Exactly, leads_by}
+use Rattle.check_calls.specs.Calls.{Exactly, in_set, leads_by}
 
 abbrev LeadsOn : Score → Agent → ℕ → Type 0
 LeadsOn sc Skip q = ⊥
@@ -36,18 +35,18 @@ or_either true b e = inl refl
 or_either false b e = inr e
 
 module _ (sc : Score) (i q : ℕ) (sets : List ℕ) where
-  marked : (a : Agent) → ((b : ℕ) → Memᴰ b (parts_of a) → Leads sc b q → holds (get_or sets b 0) q ≡ true) → LeadsOn sc a q → leads_by a sets q ≡ true
+  marked : (a : Agent) → ((b : ℕ) → Memᴰ b (parts_of a) → Leads sc b q → in_set (get_or sets b 0) q ≡ true) → LeadsOn sc a q → leads_by a sets q ≡ true
   marked Skip below l = absurd l
   marked Abort below l = absurd l
   marked (Tell t) below l = absurd l
   marked (Parallel a b) below (inl l) = rw (below a (Memᴰ.head refl) l)
-  marked (Parallel a b) below (inr l) = rw (below b (Memᴰ.tail (Memᴰ.head refl)) l) (or-true (holds (get_or sets a 0) q))
+  marked (Parallel a b) below (inr l) = rw (below b (Memᴰ.tail (Memᴰ.head refl)) l) (or-true (in_set (get_or sets a 0) q))
   marked (When t b) below l = below b (Memᴰ.head refl) l
   marked (Next b) below l = absurd l
   marked (Unless t b) below l = absurd l
   marked (Call p) below l = eq-eqb p q l
 
-  leads : (a : Agent) → agent_at sc i ≡ a → ((b : ℕ) → Memᴰ b (parts_of a) → holds (get_or sets b 0) q ≡ true → Leads sc b q) → leads_by a sets q ≡ true → Leads sc i q
+  leads : (a : Agent) → agent_at sc i ≡ a → ((b : ℕ) → Memᴰ b (parts_of a) → in_set (get_or sets b 0) q ≡ true → Leads sc b q) → leads_by a sets q ≡ true → Leads sc i q
   leads Skip e below t = absurd (false≢true t)
   leads Abort e below t = absurd (false≢true t)
   leads (Tell u) e below t = absurd (false≢true t)
@@ -55,13 +54,13 @@ module _ (sc : Score) (i q : ℕ) (sets : List ℕ) where
       ⊎_elim
       (λ u. by_first e (below a (Memᴰ.head refl) u))
       (λ u. by_second e (below b (Memᴰ.tail (Memᴰ.head refl)) u))
-      (or_either (holds (get_or sets a 0) q) (holds (get_or sets b 0) q) t)
+      (or_either (in_set (get_or sets a 0) q) (in_set (get_or sets b 0) q) t)
   leads (When u b) e below t = by_body e (below b (Memᴰ.head refl) t)
   leads (Next b) e below t = absurd (false≢true t)
   leads (Unless u b) e below t = absurd (false≢true t)
   leads (Call p) e below t = calls (subst (λ r. agent_at sc i ≡ Call r) (eqb-true p q t) e)
 
-  pub leads_exact : ((b : ℕ) → Memᴰ b (parts_of (agent_at sc i)) → Exactly (holds (get_or sets b 0) q) (Leads sc b q)) → Exactly (leads_by (agent_at sc i) sets q) (Leads sc i q)
+  pub leads_exact : ((b : ℕ) → Memᴰ b (parts_of (agent_at sc i)) → Exactly (in_set (get_or sets b 0) q) (Leads sc b q)) → Exactly (leads_by (agent_at sc i) sets q) (Leads sc i q)
   leads_exact below = (
     leads (agent_at sc i) refl (λ b m. (below b m).0),
     λ l. marked (agent_at sc i) (λ b m. (below b m).1) (leads_inverse sc l),

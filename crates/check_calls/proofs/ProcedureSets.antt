@@ -1,9 +1,10 @@
 -- Laws of a set of procedures kept as the bits of a number.
---     holds_or       the bitwise or is the union
---     holds_one      a one shifted left by p is the set of p alone
---     holds_some     a set of n bits that is not 0 holds a procedure
+--     in_set_none    nothing is in 0
+--     in_set_or      the bitwise or is the union
+--     in_set_one     a one shifted left by p is the set of p alone
+--     in_set_some    a set of n bits that is not 0 holds a procedure
 use mathlib.Core.Path.{◌≡◌, refl, sym, ap, ◌∙◌}
-use mathlib.Core.Bool.{true, ◌||◌}
+use mathlib.Core.Bool.{true, false, ◌||◌}
 use Prim.Native.Nat.{ℕ, zero, suc, ◌+◌, ◌*◌, ◌-◌, ◌/◌, ◌%◌, ◌^◌, ◌<◌}
 use native.Mathlib.Decide.{dec_lt, ℕ_discrete}
 use native.Mathlib.Nat.{one-mul, mod-lt, mod-eq_of_lt, div-eq_of_lt, pow-suc, mul-mod_left, div-one}
@@ -11,8 +12,8 @@ use native.Mathlib.Omega.{arith}
 use borrow.Author.Tests.{eq-eqb, ne_eqb}
 use lib.Bits.{bit_or, or_shr, or_mod}
 use lib.Dec.{eqb, lit<}
-use lib.Pow.{pow-lt, pow-add, shl-shr, shr-shr}
-use Rattle.laws.specs.Sets.{holds}
+use lib.Pow.{pow-lt, pow_pos, pow-add, shl-shr, shr-shr}
+use Rattle.check_calls.specs.Calls.{in_set}
 
 -- of two binary digits
 digit_or : (x y : ℕ) → x < 2 → y < 2 → eqb (bit_or x y) 1 ≡ (eqb x 1 || eqb y 1)
@@ -24,12 +25,16 @@ digit_or (suc zero) (suc zero) h k = refl
 digit_or (suc zero) (suc (suc y)) h k = absurd (omega arith)
 digit_or (suc (suc x)) y h k = absurd (omega arith)
 
-pub holds_or : (a b q : ℕ) → holds (bit_or a b) q ≡ (holds a q || holds b q)
-unfolding holds
-holds_or a b q =
+pub in_set_or : (a b q : ℕ) → in_set (bit_or a b) q ≡ (in_set a q || in_set b q)
+unfolding in_set
+in_set_or a b q =
     ap (λ n. eqb (n % 2) 1) (or_shr a b q)
     ∙ ap (λ n. eqb n 1) (or_mod (a / 2 ^ q) (b / 2 ^ q) 1)
     ∙ digit_or (a / 2 ^ q % 2) (b / 2 ^ q % 2) (mod-lt (a / 2 ^ q) (lit< tt)) (mod-lt (b / 2 ^ q) (lit< tt))
+
+pub in_set_none : (q : ℕ) → in_set 0 q ≡ false
+unfolding in_set
+in_set_none q = ap (λ n. eqb (n % 2) 1) (div-eq_of_lt (pow_pos q))
 
 -- bit q of 2 ^ p
 power_same : (p : ℕ) → 2 ^ p / 2 ^ p % 2 ≡ 1
@@ -51,18 +56,18 @@ power_other p q n = go (dec_lt p q)
     go (yes h) = power_below p q h
     go (no h) = power_above p q (p - q - 1) (omega arith)
 
-pub holds_one : (p q : ℕ) → p < 64 → holds (1 * 2 ^ p % 2 ^ 64) q ≡ eqb p q
-unfolding holds
-holds_one p q h = ap (λ n. eqb (n / 2 ^ q % 2) 1) (mod-eq_of_lt {m = 2 ^ 64} (rw one-mul (pow-lt h)) ∙ one-mul (2 ^ p)) ∙ go (ℕ_discrete p q)
+pub in_set_one : (p q : ℕ) → p < 64 → in_set (1 * 2 ^ p % 2 ^ 64) q ≡ eqb p q
+unfolding in_set
+in_set_one p q h = ap (λ n. eqb (n / 2 ^ q % 2) 1) (mod-eq_of_lt {m = 2 ^ 64} (rw one-mul (pow-lt h)) ∙ one-mul (2 ^ p)) ∙ go (ℕ_discrete p q)
   where
     go : Dec (p ≡ q) → eqb (2 ^ p / 2 ^ q % 2) 1 ≡ eqb p q
     go (yes e) = ap (λ n. eqb n 1) (ap (λ n. 2 ^ p / 2 ^ n % 2) (sym e) ∙ power_same p) ∙ sym (eq-eqb p q e)
     go (no n) = ap (λ k. eqb k 1) (power_other p q n) ∙ sym (ne_eqb p q n)
 
-pub holds_some : (n x : ℕ) → x < 2 ^ n → (x ≡ 0 → ⊥) → (q : ℕ) × (q < n) × (holds x q ≡ true)
-unfolding holds
-holds_some zero x small some = absurd (some (omega arith))
-holds_some (suc n) x small some = go (ℕ_discrete (x % 2) 1) (holds_some n (x / 2))
+pub in_set_some : (n x : ℕ) → x < 2 ^ n → (x ≡ 0 → ⊥) → (q : ℕ) × (q < n) × (in_set x q ≡ true)
+unfolding in_set
+in_set_some zero x small some = absurd (some (omega arith))
+in_set_some (suc n) x small some = go (ℕ_discrete (x % 2) 1) (in_set_some n (x / 2))
   where
     go : Dec (x % 2 ≡ 1) → (x / 2 < 2 ^ n → (x / 2 ≡ 0 → ⊥) → (q : ℕ) × (q < n) × (eqb (x / 2 / 2 ^ q % 2) 1 ≡ true)) → (q : ℕ) × (q < suc n) × (eqb (x / 2 ^ q % 2) 1 ≡ true)
     go (yes e) rest = (0, omega arith, ap (λ m. eqb (m % 2) 1) (div-one x) ∙ eq-eqb (x % 2) 1 e)

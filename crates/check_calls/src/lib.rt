@@ -1,10 +1,9 @@
 // Tables of unguarded calls: a set of procedures for each agent, and a row of flags for each procedure.
 ghost use Rattle.std.specs.Prelude.{◌≡◌, false, ◌||◌, ℕ, ◌<◌, ◌≤◌, length, get_or};
 ghost use mathlib.Core.List.{Memᴰ};
-ghost use Rattle.laws.specs.Sets.{holds};
 ghost use Rattle.tcc.specs.Limits.{most_procedures};
 ghost use Rattle.tcc.specs.Score.{parts_of, procedures_of};
-ghost use Rattle.check_calls.specs.Calls.{leads_by, Stepped, Closed};
+ghost use Rattle.check_calls.specs.Calls.{in_set, leads_by, Stepped, Closed};
 
 use tcc::Agent;
 
@@ -17,7 +16,7 @@ pub type Rows = [Row; 64];
 pub fn leads_to(agent: Agent, sets: &[u64]) -> u64
     requires by_index { (b : ℕ) → Memᴰ b (parts_of agent) → b < length sets.now }
     requires by_index_2 { (p : ℕ) → Memᴰ p (procedures_of agent) → p < most_procedures }
-    ensures { (q : ℕ) → q < 64 → holds result q ≡ leads_by agent sets.now q }
+    ensures { (q : ℕ) → q < 64 → in_set result q ≡ leads_by agent sets.now q }
 {
     match agent {
         Agent::Skip => 0,
@@ -33,7 +32,7 @@ pub fn leads_to(agent: Agent, sets: &[u64]) -> u64
 
 // A set of procedures as a row of flags.
 pub fn row_of(set: u64) -> Row
-    ensures { (q : ℕ) → q < 64 → get_or result q false ≡ holds set q }
+    ensures { (q : ℕ) → q < 64 → get_or result q false ≡ in_set set q }
 {
     let mut row = [false; 64];
     let mut rest = set;

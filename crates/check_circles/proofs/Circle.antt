@@ -18,8 +18,6 @@ use native.Mathlib.Nat.{not-suc-le-zero, le_of_suc-le-suc, add-zero, add-suc, su
 use native.Mathlib.Omega.{arith}
 use native.Mathlib.Numerals.{add-one}
 use lib.ListN.{length, get_or}
-use Rattle.laws.proofs.Sets.{holds_none}
-use Rattle.laws.specs.Sets.{holds}
 use Rattle.tcc.specs.Score.{Score, root_of}
 use Rattle.tcc.specs.Unguarded.{Leads, Reaches, circular, one as one_call, more as more-calls}
 use Rattle.tcc.proofs.Unguarded.{CallsKnown, leads_known, circular_exact, call_free}
@@ -30,8 +28,8 @@ use Rattle.check_verdicts.specs.declared.Verdict.TheVariants.{Accepted, Circle}
 use Rattle.check_verdicts.specs.Verdicts.{verdict_number}
 use Rattle.check_faults.specs.Faultless.{Faultless}
 use Rattle.check_faults.proofs.Accepted.{procedures_known, roots_known}
-use Rattle.check_calls.specs.Calls.{called, Direct, Linked, one, more, Closed, Gathered}
-use Rattle.check_calls.proofs.ProcedureSets.{holds_some}
+use Rattle.check_calls.specs.Calls.{called, Direct, Linked, one, more, Closed, in_set, Gathered}
+use Rattle.check_calls.proofs.ProcedureSets.{in_set_none, in_set_some}
 use Rattle.check_circles.specs.Circles.{circle_from}
 use Rattle.check_circles.specs.Lowest.{UnguardedCall, LowestCircular}
 
@@ -50,15 +48,15 @@ module _ (s : List ℕ) (h : Faultless s) where
 module _ (sc : Score) (n : ℕ) (sets : List ℕ) (gathered : Gathered sc n sets) (rooted : (p : ℕ) → p < length sc.roots → root_of sc p < n) where
   pub call_here : (p : ℕ) → p < length sc.roots → get_or sets (root_of sc p) 0 < 2 ^ 64 → (get_or sets (root_of sc p) 0 ≡ 0 → ⊥) → UnguardedCall sc
   call_here p lt small some =
-      let held = holds_some 64 (get_or sets (root_of sc p) 0) small some in
+      let held = in_set_some 64 (get_or sets (root_of sc p) 0) small some in
       record { caller = p; known = lt; callee = held.0; leads = (gathered.exact (root_of sc p) held.0 (rooted p lt) held.1).0 held.2 }
 
   pub calls_none : CallsKnown sc → length sc.roots ≤ 64 → ((p : ℕ) → p < length sc.roots → get_or sets (root_of sc p) 0 ≡ 0) → UnguardedCall sc → ⊥
   calls_none known few none call =
       let q = call.callee in
       let root = root_of sc call.caller in
-      let held : holds (get_or sets root 0) q ≡ true = (gathered.exact root q (rooted call.caller call.known) (omega (arith, leads_known known call.leads))).1 call.leads in
-      false≢true (sym (holds_none q) ∙ ap (λ x. holds x q) (sym (none call.caller call.known)) ∙ held)
+      let held : in_set (get_or sets root 0) q ≡ true = (gathered.exact root q (rooted call.caller call.known) (omega (arith, leads_known known call.leads))).1 call.leads in
+      false≢true (sym (in_set_none q) ∙ ap (λ x. in_set x q) (sym (none call.caller call.known)) ∙ held)
 
 pub none_circular : (sc : Score) → CallsKnown sc → (UnguardedCall sc → ⊥) → LowestCircular sc (length sc.roots)
 none_circular sc known none = record {

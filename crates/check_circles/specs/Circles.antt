@@ -1,6 +1,5 @@
 -- The table's row 7.
---     circle_from          the lowest procedure from p on, of those left, from which unguarded calls lead back to
---                          itself
+--     circle_from          the lowest procedure from p on, of those left, from which unguarded calls lead back to itself
 use Rattle.std.specs.Prelude.{cond, ℕ, zero, suc}
 use Rattle.tcc.specs.Score.{Score}
 use Rattle.tcc.specs.Unguarded.{circular}

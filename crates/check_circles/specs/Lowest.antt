@@ -1,7 +1,7 @@
 -- Contracts of inner functions: what is found on the way to row 7.
 --     UnguardedCall      some procedure calls one unguarded
---     LowestCircular     the lowest procedure from which unguarded calls lead back to itself, or the number of
---                        procedures where there is none
+--     LowestCircular     the lowest procedure from which unguarded calls lead back to itself, or the number of procedures
+--                        where there is none
 use Rattle.std.specs.Prelude.{◌≡◌, true, false, ℕ, ◌<◌, ◌≤◌, length}
 use Rattle.tcc.specs.Score.{Score, root_of}
 use Rattle.tcc.specs.Unguarded.{Leads, circular}

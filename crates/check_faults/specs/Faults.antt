@@ -19,8 +19,7 @@ abbrev pub head_verdict : ℕ → Verdict
 head_verdict w = cond (is_word 1 24 w) Accepted Head
 
 abbrev pub count_verdict : Sizes → ℕ → Verdict
-count_verdict h n =
-    cond (ltb n (2 + h.agents + h.procedures) || ltb (2 + h.agents + h.procedures + most_rules) n) Count Accepted
+count_verdict h n = cond (ltb n (2 + h.agents + h.procedures) || ltb (2 + h.agents + h.procedures + most_rules) n) Count Accepted
 
 unfoldable pub word_verdict : Sizes → ℕ → ℕ → Verdict
 word_verdict h k w =

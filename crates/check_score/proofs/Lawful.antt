@@ -8,7 +8,7 @@ use mathlib.Core.List.{List, Memᴰ}
 use Prim.Native.Nat.{ℕ, ◌+◌, ◌*◌, ◌<◌, ◌≤◌}
 use native.Mathlib.Nat.{zero-add}
 use native.Mathlib.Omega.{arith}
-use lib.ListN.{length}
+use lib.ListN.{length, drop}
 use Rattle.laws.proofs.Sets.{Within}
 use Rattle.tcc.specs.Lawful.{Lawful}
 use Rattle.tcc.specs.Unguarded.{Reaches, circular}
@@ -18,12 +18,34 @@ use Rattle.words.proofs.Words.{words_length}
 use Rattle.format.specs.Decode.{sizes, decode}
 use Rattle.format.proofs.Decode.{decode_agents, decode_roots, decode_tokens, decode_lowest, decode_highest, decode_rules, on_rules, sizes_few}
 use Rattle.check_verdicts.specs.declared.Verdict.TheVariants.{Accepted}
-use Rattle.check_verdicts.specs.Verdicts.{verdict_number}
+use Rattle.check_verdicts.specs.Verdicts.{verdict_number, or_else}
+use Rattle.check_verdicts.proofs.Verdicts.{both_accepted}
+use Rattle.check_faults.specs.Faults.{length_verdict, head_verdict, count_verdict, first_fault}
 use Rattle.check_faults.specs.Faultless.{Faultless}
 use Rattle.check_faults.proofs.Accepted.{length_accepted, count_accepted, tokens_known, parts_lower, roots_known, ports_known, ports_ordered, rules_known}
+use Rattle.check_circles.specs.Circles.{circle_from}
 use Rattle.check_circles.proofs.Circle.{calls_known, circle_free}
 use Rattle.check_score.specs.Check.{verdict}
-use Rattle.check_score.proofs.Passed.{passed}
+
+-- each test in turn
+record Passed (s : List ℕ) : Type 0 where
+  length_passed : length_verdict (length s) ≡ Accepted
+  count_passed : count_verdict (sizes s) (length (words s)) ≡ Accepted
+  faults_passed : first_fault (sizes s) 1 (drop 1 (words s)) ≡ Accepted
+  circles_passed : circle_from (decode s) 0 (length (decode s).roots) ≡ Accepted
+
+passed : (s : List ℕ) → verdict s ≡ Accepted → Passed s
+unfolding verdict
+passed s e =
+    let last = circle_from (decode s) 0 (length (decode s).roots) in
+    let faults = first_fault (sizes s) 1 (drop 1 (words s)) in
+    let count = count_verdict (sizes s) (length (words s)) in
+    let head = head_verdict (word_at s 0) in
+    let a = both_accepted (length_verdict (length s)) (or_else head (or_else count (or_else faults last))) e in
+    let b = both_accepted head (or_else count (or_else faults last)) a.1 in
+    let c = both_accepted count (or_else faults last) b.1 in
+    let d = both_accepted faults last c.1 in
+    record { length_passed = a.0; count_passed = c.0; faults_passed = d.0; circles_passed = d.1 }
 
 module _ (s : List ℕ) (e : verdict s ≡ Accepted) where
   pub accepted_words : length s ≡ 4 * length (words s)

@@ -1,4 +1,3 @@
-pub mod Passed
 pub mod Values
 pub mod Lawful
 pub mod Stages

@@ -1,11 +1,10 @@
 -- Verdicts of the score check.
---     verdict_number, verdict_value   the table's number for a verdict, and the word or procedure returned with it; 0
---                                     where there is none
+--     verdict_number, verdict_value   the table's number for a verdict, and the word or procedure returned with it; 0 where there
+--                                     is none
 --     or_else                          the first verdict, or the second where the first finds nothing wrong
 use Rattle.std.specs.Prelude.{ℕ}
 use Rattle.check_verdicts.specs.declared.Verdict.{Verdict}
-use Rattle.check_verdicts.specs.declared.Verdict.TheVariants.{Accepted, Length, Head, Count}
-use Rattle.check_verdicts.specs.declared.Verdict.TheVariants.{Form, Token, Reference, Circle}
+use Rattle.check_verdicts.specs.declared.Verdict.TheVariants.{Accepted, Length, Head, Count, Form, Token, Reference, Circle}
 
 abbrev pub verdict_number : Verdict → ℕ
 verdict_number Accepted = 0

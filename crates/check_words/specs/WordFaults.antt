@@ -16,8 +16,7 @@ use Rattle.check_verdicts.specs.declared.Verdict.TheVariants.{Accepted, Form, To
 
 -- of word k: whether it has the form of its place, the tokens that it names, whether it refers out of range
 abbrev pub at_word : Sizes → ℕ → Bool → List ℕ → Bool → Verdict
-at_word h k formed tokens astray =
-    cond formed (cond (any (λ t. leb h.tokens t) tokens) (Token k) (cond astray (Reference k) Accepted)) (Form k)
+at_word h k formed tokens astray = cond formed (cond (any (λ t. leb h.tokens t) tokens) (Token k) (cond astray (Reference k) Accepted)) (Form k)
 
 abbrev pub ports_verdict : Sizes → ℕ → ℕ → Verdict
 ports_verdict h k w = at_word h k (is_word 11 16 w) (field w 0 8 ∷ field w 8 8 ∷ []) (ltb (field w 8 8) (field w 0 8))
@@ -25,9 +24,7 @@ ports_verdict h k w = at_word h k (is_word 11 16 w) (field w 0 8 ∷ field w 8 8
 -- agent i is word 2 + i
 abbrev pub agent_verdict : Sizes → ℕ → Decoded → Verdict
 agent_verdict h i Malformed = Form (2 + i)
-agent_verdict h i (Whole a) =
-    at_word h (2 + i) true (tokens_of a) (any (λ b. leb i b) (parts_of a)
-    || any (λ p. leb h.procedures p) (procedures_of a))
+agent_verdict h i (Whole a) = at_word h (2 + i) true (tokens_of a) (any (λ b. leb i b) (parts_of a) || any (λ p. leb h.procedures p) (procedures_of a))
 
 abbrev pub root_verdict : Sizes → ℕ → ℕ → Verdict
 root_verdict h k w = at_word h k (is_word 3 10 w) [] (leb h.agents (field w 0 10))

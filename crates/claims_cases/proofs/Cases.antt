@@ -1,8 +1,7 @@
 -- The marked cases hold: antt runs the definitions on each. Of a refused call it runs the score check and what is asked
 -- of one agent or token; the agents and tokens of whole buffers are found by the laws of crate lent. Of a run it runs the
--- score check, the form of the list and the instants from the start state, in place of those from the state's bytes. Of a
--- draft it runs the check and the decoding; its plain score is that of crate draft_plain, which it writes.
-use mathlib.Core.Path.{◌≡◌, refl, sym, ap, ◌∙◌}
+-- score check, the form of the list and the instants from the start state, in place of those from the state's bytes.
+use mathlib.Core.Path.{◌≡◌, refl, sym, ◌∙◌}
 use mathlib.Core.Bool.{true, false}
 use mathlib.Core.List.Memᴰ
 use mathlib.Core.List.{List, [], ◌∷◌, ◌++◌}
@@ -12,7 +11,6 @@ use lib.Dec.{leb}
 use lib.ListN.{length, take, drop}
 use Rattle.laws.specs.Sets.{any}
 use Rattle.laws.proofs.Sets.{some_any, keep_kept, lt_below}
-use Rattle.tcc.specs.Score.{Score}
 use Rattle.tcc.specs.Closure.{fires, firing, close_within, close}
 use Rattle.tcc.specs.Unguarded.{met_from, circular}
 use Rattle.tcc.specs.Instant.{running, reached, instant, output, answer, answers}
@@ -20,15 +18,13 @@ use Rattle.words.specs.Word.{words, word_at, field}
 use Rattle.words.specs.Map.{in_map}
 use Rattle.format.specs.Format.{is_word, decode_agent, is_rule}
 use Rattle.format.specs.Decode.{sizes, decode}
-use Rattle.check_verdicts.specs.declared.Verdict.TheVariants.{Accepted, Length}
+use Rattle.check_verdicts.specs.declared.Verdict.TheVariants.{Length}
 use Rattle.check_verdicts.specs.Verdicts.{verdict_number}
 use Rattle.check_faults.specs.Faults.{word_verdict, first_fault, length_verdict}
 use Rattle.check_circles.specs.Circles.{circle_from}
 use Rattle.check_score.specs.Check.{verdict}
 use Rattle.bits.specs.Bits.{bit_at, bits_value, bytes_of}
-use Rattle.encoding.specs.Encode.{score_words}
-use Rattle.lent.specs.States.{agents_in, state_fault, agent_words, numbered}
-use Rattle.lent.specs.Lawful.{LawfulState}
+use Rattle.lent.specs.States.{agents_in, state_fault, agent_words, numbered, LawfulState}
 use Rattle.lent.specs.Lengths.{state_bytes, map_bytes, scratch_bytes, no_scratch}
 use Rattle.lent.proofs.Faults.{fault_running}
 use Rattle.lent.proofs.Round.{lawful_bytes}
@@ -44,11 +40,7 @@ use Rattle.journal_run_list.specs.declared.Stop.{Stop}
 use Rattle.journal_run_list.specs.declared.Stop.TheVariants.{Not, Room}
 use Rattle.journal_run_list.specs.Run.{Ran}
 use Rattle.journal_run.specs.RunCall as run
-use Rattle.draft_language.specs.Draft.{Draft}
-use Rattle.draft_format.specs.DraftFile.{as_whens_from, draft_verdict, decode_draft}
-use Rattle.draft_plain.specs.Plain.{plain_of}
-use Rattle.draft_plain.proofs.ActsByHand.{acts_by_hand}
-use Rattle.claims_cases.specs.Cases.{bytes, turned_down, translated, Holds, sample, state_with, input_with, listed, printed, nested, nested_plain_lem, two_sets_lem, two_sets_plain_lem, unless_under_lem, unless_under_plain_lem, winch, winch_plain_lem, Marked}
+use Rattle.claims_cases.specs.Cases.{bytes, turned_down, Holds, sample, state_with, input_with, listed, printed, Marked}
 use Rattle.claims_cases.proofs.Runs.{play_on, exit_plays}
 
 refused_length : (n : ℕ) → length_verdict n ≡ Length → (s : List ℕ) → length s ≡ n → verdict s ≡ Length
@@ -125,16 +117,6 @@ sample_runs n r e journal scratch h i =
 abbrev ran : List ℕ → ℕ → Stop → Ran
 ran written n stop = record { words = written; state = bytes (state_with 0x4 n); instants = n; stop = stop }
 
--- a draft by its words, as it was translated by hand
-by_hand : (ws plain : List ℕ) {d : Draft} {sc : Score} → draft_verdict (bytes ws) ≡ Accepted → decode_draft (bytes ws) ≡ d → plain_of d ≡ sc → score_words sc ≡ plain → Holds (translated ws plain)
-by_hand ws plain accepted is made written = (accepted, ap (λ d. score_words (plain_of d)) is ∙ ap score_words made ∙ written)
-
-drafts_hold : Holds (translated nested nested_plain_lem) × Holds (translated two_sets_lem two_sets_plain_lem) × Holds (translated unless_under_lem unless_under_plain_lem) × Holds (translated winch winch_plain_lem)
-unfolding fires firing close_within close met_from circular words field is_word decode_agent is_rule decode word_verdict first_fault circle_from verdict as_whens_from decode_draft score_words
-drafts_hold =
-    let (first, second, third, fourth) = acts_by_hand in
-    (by_hand nested nested_plain_lem refl refl first refl, by_hand two_sets_lem two_sets_plain_lem refl refl second refl, by_hand unless_under_lem unless_under_plain_lem refl refl third refl, by_hand winch winch_plain_lem refl refl fourth refl)
-
 pub marked : Marked
 unfolding fires firing close_within close met_from circular reached instant output answer answers words field is_word decode_agent is_rule decode word_verdict first_fault circle_from verdict bits_value bytes_of agent_words numbered up_to instants_in tokens_of input_lists instant_words play_on
 marked = (
@@ -147,7 +129,7 @@ marked = (
         refused_length 3 refl,
         (
           refused_length 5388 refl,
-          (refl, (refl, (refl, (refl, (state_refused, (input_refused, (refl, (refl, (sample_runs 16 (ran (take 4 printed) 2 Room) refl, (sample_runs 12 (ran (take 3 printed) 1 Room) refl, (sample_runs 36 (ran printed 3 Not) refl, (refl, (refl, (refl, (refl, (drafts_hold.0, (drafts_hold.1, (drafts_hold.2, (drafts_hold.3, tt))))))))))))))))))),
+          (refl, (refl, (refl, (refl, (state_refused, (input_refused, (refl, (refl, (sample_runs 16 (ran (take 4 printed) 2 Room) refl, (sample_runs 12 (ran (take 3 printed) 1 Room) refl, (sample_runs 36 (ran printed 3 Not) refl, (refl, (refl, (refl, (refl, tt))))))))))))))),
         ),
       ),
     ),

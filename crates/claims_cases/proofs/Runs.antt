@@ -21,8 +21,7 @@ use Rattle.check_verdicts.specs.Verdicts.{verdict_number}
 use Rattle.check_score.specs.Check.{verdict}
 use Rattle.check_score.proofs.Stages.{playable}
 use Rattle.lent.specs.Lengths.{scratch_bytes}
-use Rattle.lent.specs.States.{numbered, last_number}
-use Rattle.lent.specs.Lawful.{LawfulState}
+use Rattle.lent.specs.States.{numbered, last_number, LawfulState}
 use Rattle.lent.proofs.Round.{lawful_bytes}
 use Rattle.lent.proofs.Numbered.{numbered_length, numbered_same, numbered_fault, number_round}
 use Rattle.journal_form.specs.declared.Form.TheVariants.{Good}

@@ -1,4 +1,4 @@
--- The marked cases of document 01, and drafts translated by hand after document 02, as one table.
+-- The marked cases of document 01, as one table.
 --     bytes            words as bytes, low byte first
 --     Seen             what a case says of an instant: status, count, the agents awake next, rising
 --     Case, Holds      a case, and what it claims of the definitions
@@ -6,8 +6,6 @@
 --     state_with, input_with
 --                      the words of a state, the bytes of an input map
 --     listed, printed  the words of the input list {1}, {}, {1,3}, and of the journal that S makes of it
---     nested, two_sets_lem, unless_under_lem, winch, and those with -plain
---                      the words of the drafts of `ActsByHand` (draft_plain), and of their plain scores
 --     marked           the table
 --     Marked           every case of the table holds
 use Rattle.std.specs.Prelude.{◌≡◌, List, [], ◌∷◌, ◌++◌, map, ℕ, ◌*◌, ◌/◌, ◌%◌, ◌^◌, length, take, drop, set, replicate}
@@ -19,7 +17,6 @@ use Rattle.format.specs.Decode.{decode}
 use Rattle.check_verdicts.specs.declared.Verdict.{Verdict}
 use Rattle.check_verdicts.specs.declared.Verdict.TheVariants.{Accepted, Length, Token, Reference, Circle}
 use Rattle.check_score.specs.Check.{verdict}
-use Rattle.encoding.specs.Encode.{score_words}
 use Rattle.lent.specs.States.{start_bytes}
 use Rattle.lent.specs.Lengths.{map_bytes, scratch_bytes, no_scratch}
 use Rattle.instant_call.specs.declared.Reply.{Reply}
@@ -28,8 +25,6 @@ use Rattle.instant_call.specs.InstantCall.{Exit, lent, exit}
 use Rattle.journal_step.specs.declared.Reply.{Reply as RunReply}
 use Rattle.journal_step.specs.declared.Reply.TheVariants as run-reply
 use Rattle.journal_run.specs.RunCall as run
-use Rattle.draft_format.specs.DraftFile.{draft_verdict, decode_draft}
-use Rattle.draft_plain.specs.Plain.{plain_of}
 
 abbrev pub bytes : List ℕ → List ℕ
 bytes [] = []
@@ -41,8 +36,7 @@ pub record Seen : Type 0 where
   pub awake : List ℕ
 
 abbrev pub seen : Score → Answer → Seen
-seen sc a =
-    record { status = a.status; count = count a; awake = keep (λ i. has i a.awake) (below (length sc.agents)) }
+seen sc a = record { status = a.status; count = count a; awake = keep (λ i. has i a.awake) (below (length sc.agents)) }
 
 pub data Case : Type 0 where
   -- the check of a score, given by its words
@@ -60,31 +54,22 @@ pub data Case : Type 0 where
   -- the words that the journal then starts with, beyond which it is as it was, the words of the state, and the reply,
   -- whatever journal and scratch held
   runs : List ℕ → List ℕ → ℕ → List ℕ → List ℕ → RunReply → Case
-  -- the words of a draft, which is accepted, and those of its plain score
-  translated : List ℕ → List ℕ → Case
 
 abbrev pub Holds : Case → Type 0
 Holds (checked ws v) = verdict (bytes ws) ≡ v
 Holds (any_bytes n v) = (s : List ℕ) → length s ≡ n → verdict s ≡ v
 Holds (weights ws l) = map (weight (decode (bytes ws))) (below (length (decode (bytes ws)).agents)) ≡ l
-Holds (instants ws agents inputs l) =
-    map (seen (decode (bytes ws))) (answers (decode (bytes ws)) (running agents) inputs) ≡ l
+Holds (instants ws agents inputs l) = map (seen (decode (bytes ws))) (answers (decode (bytes ws)) (running agents) inputs) ≡ l
 Holds (turned_down ws state input r) =
-    (store output scratch : List ℕ) → length store ≡ map_bytes → length output ≡ map_bytes →
-    length scratch ≡ scratch_bytes →
-    ◌≡◌ {A = Exit} (exit (bytes ws) input (lent (bytes state) store output scratch))
-    (record { lent = lent (bytes state) store output scratch; reply = r })
+    (store output scratch : List ℕ) → length store ≡ map_bytes → length output ≡ map_bytes → length scratch ≡ scratch_bytes →
+    ◌≡◌ {A = Exit} (exit (bytes ws) input (lent (bytes state) store output scratch)) (record { lent = lent (bytes state) store output scratch; reply = r })
 Holds (runs ws inputs n written state r) =
     (journal scratch : List ℕ) → length journal ≡ n → length scratch ≡ scratch_bytes →
     ◌≡◌ {A = run.Exit} (run.exit (bytes ws) (bytes inputs) (run.lent (start_bytes (decode (bytes ws))) journal scratch))
     (record { lent = run.lent (bytes state) (bytes written ++ drop (4 * length written) journal) no_scratch; reply = r })
-Holds (translated ws plain) =
-    (draft_verdict (bytes ws) ≡ Accepted) × (score_words (plain_of (decode_draft (bytes ws))) ≡ plain)
 
 abbrev pub sample : List ℕ
-sample =
-    0x10000403 ∷ 0xB0000302 ∷ 0x50000002 ∷ 0x70000400 ∷ 0xA0000000 ∷ 0x80000002 ∷ 0x60000C01 ∷ 0x30000004 ∷ 0x20030200
-    ∷ []
+sample = 0x10000403 ∷ 0xB0000302 ∷ 0x50000002 ∷ 0x70000400 ∷ 0xA0000000 ∷ 0x80000002 ∷ 0x60000C01 ∷ 0x30000004 ∷ 0x20030200 ∷ []
 
 abbrev pub aborting : List ℕ
 aborting = set sample 2 0x40000001
@@ -112,49 +97,10 @@ unless_pair = 0x10000101 ∷ 0xB0000000 ∷ 0x50000001 ∷ 0x90000400 ∷ 0x3000
 abbrev pub parallel_pair : List ℕ
 parallel_pair = 0x10000101 ∷ 0xB0000000 ∷ 0x50000001 ∷ 0x60000000 ∷ 0x30000001 ∷ []
 
-abbrev pub nested : List ℕ
-nested = 0x10000303 ∷ 0xB0000303 ∷ 0x50000003 ∷ 0x80000000 ∷ 0xF0000801 ∷ 0xF0000402 ∷ 0x30000003 ∷ []
-
-abbrev pub nested_plain_lem : List ℕ
-nested_plain_lem =
-    0x10000104 ∷ 0xB0000303 ∷ 0x50000003 ∷ 0x90001000 ∷ 0x30000001 ∷ 0x20010104 ∷ 0x20020204 ∷ []
-
-abbrev pub two_sets_lem : List ℕ
-two_sets_lem =
-    0x10000704 ∷ 0xB0000404 ∷ 0x50000004 ∷ 0x80000000 ∷ 0xF0000C01 ∷ 0xF0000802 ∷ 0x80000000 ∷ 0xF0000404
-    ∷ 0xF0000C05 ∷ 0x60001803 ∷ 0x30000007 ∷ 0x20010104 ∷ []
-
-abbrev pub two_sets_plain_lem : List ℕ
-two_sets_plain_lem =
-    0x10000406 ∷ 0xB0000404 ∷ 0x50000004 ∷ 0x50000004 ∷ 0x90001801 ∷ 0x90001400 ∷ 0x60000C02 ∷ 0x30000004
-    ∷ 0x20010104 ∷ 0x20010105 ∷ 0x20030305 ∷ 0x20020206 ∷ 0x20030306 ∷ []
-
-abbrev pub unless_under_lem : List ℕ
-unless_under_lem =
-    0x10040403 ∷ 0xB0000303 ∷ 0x50000003 ∷ 0x90000800 ∷ 0xA0000001 ∷ 0xF0000402 ∷ 0x60000C02 ∷ 0x30000004
-    ∷ 0x30000001 ∷ []
-
-abbrev pub unless_under_plain_lem : List ℕ
-unless_under_plain_lem =
-    0x10080604 ∷ 0xB0000303 ∷ 0x50000003 ∷ 0x50000003 ∷ 0x90000800 ∷ 0x90001001 ∷ 0xA0000001 ∷ 0xA0000002
-    ∷ 0x60001404 ∷ 0x30000006 ∷ 0x30000002 ∷ 0x30000003 ∷ 0x20010104 ∷ 0x20020204 ∷ []
-
--- sample/draft
-abbrev pub winch : List ℕ
-winch =
-    0x10040603 ∷ 0xB0000202 ∷ 0x50000002 ∷ 0x70000400 ∷ 0xA0000001 ∷ 0x80000002 ∷ 0x60000C01 ∷ 0xA0000001
-    ∷ 0xF0000C05 ∷ 0x30000006 ∷ 0x30000004 ∷ []
-
-abbrev pub winch_plain_lem : List ℕ
-winch_plain_lem =
-    0x10040503 ∷ 0xB0000202 ∷ 0x50000002 ∷ 0x70000400 ∷ 0xA0000001 ∷ 0x90000C02 ∷ 0x60000C01 ∷ 0xA0000001
-    ∷ 0x30000005 ∷ 0x30000004 ∷ []
-
 abbrev pub marked : List Case
 marked =
     instants sample (4 ∷ []) ((1 ∷ []) ∷ [] ∷ (1 ∷ 3 ∷ []) ∷ [])
-    (record { status = 0; count = 3; awake = 2 ∷ [] } ∷ record { status = 0; count = 2; awake = 2 ∷ [] }
-    ∷ record { status = 1; count = 4; awake = 2 ∷ [] } ∷ [])
+    (record { status = 0; count = 3; awake = 2 ∷ [] } ∷ record { status = 0; count = 2; awake = 2 ∷ [] } ∷ record { status = 1; count = 4; awake = 2 ∷ [] } ∷ [])
     ∷ weights sample (1 ∷ 2 ∷ 4 ∷ 0 ∷ 3 ∷ [])
     ∷ any_bytes 0 Length
     ∷ any_bytes 3 Length
@@ -175,10 +121,6 @@ marked =
     ∷ instants unless_pair (1 ∷ []) ((1 ∷ []) ∷ []) (record { status = 0; count = 1; awake = [] } ∷ [])
     ∷ weights parallel_pair (1 ∷ 3 ∷ [])
     ∷ instants parallel_pair (1 ∷ []) ([] ∷ []) (record { status = 0; count = 2; awake = [] } ∷ [])
-    ∷ translated nested nested_plain_lem
-    ∷ translated two_sets_lem two_sets_plain_lem
-    ∷ translated unless_under_lem unless_under_plain_lem
-    ∷ translated winch winch_plain_lem
     ∷ []
 
 abbrev pub Each : List Case → Type 0

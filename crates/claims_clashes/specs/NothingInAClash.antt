@@ -1,12 +1,11 @@
--- "The drive makers' rule is that a contradictory instant commands nothing. The output of a status 1 instant is empty
--- and its journal has no kind 14 words there; the store map still shows every token." At the contracts of the instant
--- call and of the run.
---     Commands         what an answered instant commands: where its store has token 0 the status is 1; at status 1 no
---                      bit of the output map is set, and the store map has all T tokens; at another status the output
---                      map has the store's tokens from the lowest to the highest port
+-- "The drive makers' rule is that a contradictory instant commands nothing. The output of a status 1 instant is empty and its
+-- journal has no kind 14 words there; the store map still shows every token." At the contracts of the instant call and of
+-- the run.
+--     Commands         what an answered instant commands: where its store has token 0 the status is 1; at status 1 no bit of
+--                      the output map is set, and the store map has all T tokens; at another status the output map has the
+--                      store's tokens from the lowest to the highest port
 --     AtTheCall        of each accepted instant call
---     AtTheRun         of each instant of a run; and one whose store has token 0 ends, in the journal, after its input
---                      words
+--     AtTheRun         of each instant of a run; and one whose store has token 0 ends, in the journal, after its input words
 --     NothingInAClash  both
 use Rattle.std.specs.Prelude.{◌≡◌, ℕ, ◌*◌, length, take, drop, replicate}
 use mathlib.Core.List.{List, [], ◌∷◌, ◌++◌, Memᴰ}
@@ -35,8 +34,7 @@ pub record Commands (sc : Score) (p : Answered) : Type 0 where
 
 abbrev pub AtTheCall : Type 0
 AtTheCall =
-    (score input : List ℕ) (before after : Lent) (answer : ℕ) → ScoreInstant score input before after answer →
-    number_in answer ≡ 0 →
+    (score input : List ℕ) (before after : Lent) (answer : ℕ) → ScoreInstant score input before after answer → number_in answer ≡ 0 →
     Commands (decode score) (answered_by (tokens_in input) before after answer)
 
 -- the words of a run whose instant p clashes
@@ -46,12 +44,9 @@ clashed_words earlier p later = shown_by earlier ++ instant_words 1 p.inputs [] 
 abbrev pub AtTheRun : Type 0
 AtTheRun =
     (score inputs : List ℕ) (before after : RunLent) (answer : ℕ) → ScoreRun score inputs before after answer →
-    (earlier later : List Answered) (p : Answered) (last : List ℕ) →
-    Plays score before.state (take (written answer) (input_lists inputs)) (earlier ++ p ∷ later) last →
+    (earlier later : List Answered) (p : Answered) (last : List ℕ) → Plays score before.state (take (written answer) (input_lists inputs)) (earlier ++ p ∷ later) last →
     Commands (decode score) p
-    × (Memᴰ 0 (tokens_in p.store) →
-    after.journal ≡ bytes_of (clashed_words earlier p later)
-    ++ drop (4 * length (clashed_words earlier p later)) before.journal)
+    × (Memᴰ 0 (tokens_in p.store) → after.journal ≡ bytes_of (clashed_words earlier p later) ++ drop (4 * length (clashed_words earlier p later)) before.journal)
 
 abbrev pub NothingInAClash : Type 0
 NothingInAClash = AtTheCall × AtTheRun

@@ -1,5 +1,5 @@
--- "Journals are judged against this reading, an old one with such words meeting 14." What a run wrote before, written
--- out as it was, and how the journal check answers it now, at its contract.
+-- "Journals are judged against this reading, an old one with such words meeting 14." What a run wrote before, written out as
+-- it was, and how the journal check answers it now, at its contract.
 --     output_before, history_before   what went to the ports whatever the status, and the journal of that
 --     Unclashed        no instant of a list has status 1
 --     Kept             where none has, the journal is byte for byte what it was: 0, with the instants read
@@ -26,8 +26,7 @@ output_before sc store = keep (λ t. has t store) (ports sc)
 unfoldable pub history_before : Score → State → List (List ℕ) → List ℕ
 history_before sc st [] = []
 history_before sc st (inputs ∷ more) =
-    instant_words (answer sc st inputs).status inputs (output_before sc (answer sc st inputs).store)
-    ++ history_before sc (after (answer sc st inputs)) more
+    instant_words (answer sc st inputs).status inputs (output_before sc (answer sc st inputs).store) ++ history_before sc (after (answer sc st inputs)) more
 
 abbrev pub Unclashed : List Answer → Type 0
 Unclashed l = (a : Answer) → Memᴰ a l → a.status ≡ 1 → ⊥
@@ -36,21 +35,17 @@ abbrev pub Kept : List ℕ → List (List ℕ) → ℕ → Type 0
 Kept score inputs checked =
     let sc = decode score in
     Unclashed (answers sc (start_state sc) inputs) →
-    (history_before sc (start_state sc) inputs ≡ history sc (start_state sc) inputs) × (number_in checked ≡ 0)
-    × (value_in checked ≡ length inputs)
+    (history_before sc (start_state sc) inputs ≡ history sc (start_state sc) inputs) × (number_in checked ≡ 0) × (value_in checked ≡ length inputs)
 
 abbrev pub TurnedDown : List ℕ → List (List ℕ) → ℕ → Type 0
 TurnedDown score inputs checked =
     let sc = decode score in
-    (earlier later : List Answer) (a : Answer) → answers sc (start_state sc) inputs ≡ earlier ++ a ∷ later →
-    Unclashed earlier → a.status ≡ 1 →
+    (earlier later : List Answer) (a : Answer) → answers sc (start_state sc) inputs ≡ earlier ++ a ∷ later → Unclashed earlier → a.status ≡ 1 →
     (number_in checked ≡ 14) × (value_in checked ≡ length earlier)
 
 abbrev pub OldJournals : Type 0
 OldJournals =
-    (score before after : List ℕ) (checked : ℕ) (inputs : List (List ℕ)) → verdict_number (verdict score) ≡ 0 →
-    length before ≡ scratch_bytes →
+    (score before after : List ℕ) (checked : ℕ) (inputs : List (List ℕ)) → verdict_number (verdict score) ≡ 0 → length before ≡ scratch_bytes →
     ((l : List ℕ) → Memᴰ l inputs → RisingBelow (decode score).tokens l) → length inputs ≤ last_number →
-    ScoreJournalCheck score
-    (bytes_of (history_before (decode score) (start_state (decode score)) inputs)) before after checked →
+    ScoreJournalCheck score (bytes_of (history_before (decode score) (start_state (decode score)) inputs)) before after checked →
     Kept score inputs checked × TurnedDown score inputs checked

@@ -21,8 +21,7 @@ use Rattle.format.proofs.Decode.{decode_tokens, sizes_few, playable_agents}
 use Rattle.check_verdicts.specs.Verdicts.{verdict_number}
 use Rattle.check_score.specs.Check.{verdict}
 use Rattle.check_score.proofs.Stages.{playable}
-use Rattle.lent.specs.States.{state_fault, state_of, as_bytes}
-use Rattle.lent.specs.Lawful.{LawfulState}
+use Rattle.lent.specs.States.{state_fault, state_of, as_bytes, LawfulState}
 use Rattle.lent.proofs.Round.{faultless_lawful}
 use Rattle.lent_maps.specs.Maps.{tokens_in}
 use Rattle.instant_state.proofs.Inside.{Inside, answer_inside, next_lawful}

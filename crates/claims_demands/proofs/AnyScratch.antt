@@ -2,26 +2,30 @@
 --     instants, runs, journal_checks     what is seen of an exit beside the scratch hangs on the scratch's length alone
 --     any_scratch      so it is of each call
 use mathlib.Core.Path.{◌≡◌, refl, sym, ap, ◌∙◌}
-use mathlib.Core.Bool.{Bool, true, false, cond, not}
+use mathlib.Core.Bool.{Bool, true, false, cond, not, ◌||◌}
 use mathlib.Core.List.{List}
 use Prim.Native.Nat.{ℕ}
 use lib.Dec.{eqb}
 use lib.ListN.{length}
-use Rattle.format.specs.Decode.{sizes}
+use Rattle.tcc.specs.Instant.{answer, after}
+use Rattle.format.specs.Decode.{sizes, decode}
 use Rattle.check_verdicts.specs.Verdicts.{verdict_number}
 use Rattle.check_score.specs.Check.{verdict}
-use Rattle.lent.specs.Lengths.{scratch_bytes, no_scratch}
+use Rattle.lent.specs.Lengths.{state_bytes, map_bytes, scratch_bytes, no_scratch}
+use Rattle.lent.specs.States.{state_fault, state_of, as_bytes, at_last}
+use Rattle.lent_maps.specs.Maps.{tokens_in}
 use Rattle.instant_call.specs.declared.Reply.{Reply as InstantReply}
-use Rattle.instant_call.specs.InstantCall.{Exit, lent, exit}
-use Rattle.instant_call.proofs.SameTests.{by_tests}
+use Rattle.instant_call.specs.declared.Reply.TheVariants.{Score as Turned, Lengths, State, Input, Last, Next}
+use Rattle.instant_call.specs.InstantCall.{Lent, Exit, lent, kept, cleared, answered, token_fault, exit}
 use Rattle.journal_form.specs.declared.Form.{Form}
 use Rattle.journal_form.specs.declared.Form.TheVariants.{Good, Bytes, Word}
 use Rattle.journal_form.specs.Form.{form_of}
+use Rattle.journal_instants.specs.Instants.{input_lists}
 use Rattle.journal_step.specs.declared.Reply.{Reply}
 use Rattle.journal_step.specs.declared.Reply.TheVariants as reply
 use Rattle.journal_step.specs.ByForm.{by_form}
+use Rattle.journal_run_list.specs.Run.{Ran, run_from}
 use Rattle.journal_run.specs.RunCall as run
-use Rattle.journal_run.proofs.SameTests as run-tests
 use Rattle.journal_check.specs.JournalCheckCall as check
 use Rattle.score_answer.specs.Answer.{packed}
 use Rattle.score_answer.specs.Replies.{of_reply, of_run_reply}
@@ -38,14 +42,37 @@ record Seen : Type 0 where
 abbrev seen : Exit → Seen
 seen e = record { reply = e.reply; state = e.lent.state; store = e.lent.store; output = e.lent.output }
 
-same : (score input state store output s₁ s₂ : List ℕ) → length s₁ ≡ length s₂ → seen (exit score input (lent state store output s₁)) ≡ seen (exit score input (lent state store output s₂))
-same score input state store output s₁ s₂ e =
-    by_tests (λ x y. seen x ≡ seen y) score input (lent state store output s₁) (lent state store output s₂) (record { lengths = rw e; faults = refl; last = refl; stands = refl })
-    (λ r. refl) (λ r. refl) (λ a. refl)
+-- by the tests of 1 to 7, of 8, 9, 10, 18 and 11
+abbrev exit_by : InstantReply → Exit → Bool → Bool → Bool → Bool → Bool → Bool → Lent → Exit
+exit_by turned end t u v w y x l = cond t (kept l turned) (cond u (kept l Lengths) (cond v (kept l State) (cond w (kept l Input) (cond y (kept l Last) (cond x (cleared l Next) end)))))
+
+module _ (state store output s₁ s₂ : List ℕ) where
+  alike : (turned : InstantReply) (end : Exit) (t u v w y x : Bool) → seen (exit_by turned end t u v w y x (lent state store output s₁)) ≡ seen (exit_by turned end t u v w y x (lent state store output s₂))
+  alike turned end true u v w y x = refl
+  alike turned end false true v w y x = refl
+  alike turned end false false true w y x = refl
+  alike turned end false false false true y x = refl
+  alike turned end false false false false true x = refl
+  alike turned end false false false false false true = refl
+  alike turned end false false false false false false = refl
+
+  same : (score input : List ℕ) → length s₁ ≡ length s₂ → seen (exit score input (lent state store output s₁)) ≡ seen (exit score input (lent state store output s₂))
+  unfolding exit
+  same score input e =
+      let turned = Turned (verdict score) in
+      let a = answer (decode score) (state_of state) (tokens_in input) in
+      let end = answered (decode score) state a in
+      let t = not (eqb (verdict_number (verdict score)) 0) in
+      let u : ℕ → Bool = λ n. not (eqb (length state) state_bytes) || not (eqb (length input) map_bytes) || not (eqb (length store) map_bytes) || not (eqb (length output) map_bytes) || not (eqb n scratch_bytes) in
+      let v = state_fault (sizes score).agents state in
+      let w = token_fault score input in
+      let y = at_last state in
+      let x = state_fault (sizes score).agents (as_bytes (after a)) in
+      ap (λ n. seen (exit_by turned end t (u n) v w y x (lent state store output s₁))) e ∙ alike turned end t (u (length s₂)) v w y x
 
 instants : Instants
 instants score input state store output s₁ s₂ after₁ after₂ a b e c d =
-    let p = same score input state store output s₁ s₂ e in (
+    let p = same state store output s₁ s₂ score input e in (
       c.answered ∙ ap (λ x. packed (of_reply x.reply)) p ∙ sym d.answered,
       ap (λ x. x.state) c.written ∙ ap (λ x. x.state) p ∙ sym (ap (λ x. x.state) d.written),
       ap (λ x. x.store) c.written ∙ ap (λ x. x.store) p ∙ sym (ap (λ x. x.store) d.written),
@@ -62,12 +89,33 @@ record SeenRun : Type 0 where
 abbrev seen_run : run.Exit → SeenRun
 seen_run e = record { reply = e.reply; state = e.lent.state; journal = e.lent.journal }
 
-same_run : (score inputs state journal s₁ s₂ : List ℕ) → length s₁ ≡ length s₂ → seen_run (run.exit score inputs (run.lent state journal s₁)) ≡ seen_run (run.exit score inputs (run.lent state journal s₂))
-same_run score inputs state journal s₁ s₂ e = run-tests.by_tests (λ x y. seen_run x ≡ seen_run y) score inputs (run.lent state journal s₁) (run.lent state journal s₂) (rw e) refl (λ r. refl) refl
+-- by the tests of 1 to 7, of 8 and 9, and by the list's form
+abbrev run_by : Reply → Ran → Bool → Bool → Bool → Form → run.Lent → run.Exit
+run_by turned ran t u v f l = cond t (run.kept l turned) (cond u (run.kept l reply.Lengths) (cond v (run.kept l reply.State) (by_form f (run.kept l) (run.ended l ran))))
+
+module _ (state journal s₁ s₂ : List ℕ) where
+  alike_run : (turned : Reply) (ran : Ran) (t u v : Bool) (f : Form) → seen_run (run_by turned ran t u v f (run.lent state journal s₁)) ≡ seen_run (run_by turned ran t u v f (run.lent state journal s₂))
+  alike_run turned ran true u v f = refl
+  alike_run turned ran false true v f = refl
+  alike_run turned ran false false true f = refl
+  alike_run turned ran false false false Good = refl
+  alike_run turned ran false false false Bytes = refl
+  alike_run turned ran false false false (Word k) = refl
+
+  same_run : (score inputs : List ℕ) → length s₁ ≡ length s₂ → seen_run (run.exit score inputs (run.lent state journal s₁)) ≡ seen_run (run.exit score inputs (run.lent state journal s₂))
+  unfolding run.exit
+  same_run score inputs e =
+      let turned = reply.Score (verdict score) in
+      let ran = run_from score state (length journal) (input_lists inputs) in
+      let t = not (eqb (verdict_number (verdict score)) 0) in
+      let u : ℕ → Bool = λ n. not (eqb (length state) state_bytes) || not (eqb n scratch_bytes) in
+      let v = state_fault (sizes score).agents state in
+      let f = form_of false (sizes score).tokens inputs in
+      ap (λ n. seen_run (run_by turned ran t (u n) v f (run.lent state journal s₁))) e ∙ alike_run turned ran t (u (length s₂)) v f
 
 runs : Runs
 runs score inputs state journal s₁ s₂ after₁ after₂ a b e c d =
-    let p = same_run score inputs state journal s₁ s₂ e in (
+    let p = same_run state journal s₁ s₂ score inputs e in (
       c.answered ∙ ap (λ x. packed (of_run_reply x.reply)) p ∙ sym d.answered,
       ap (λ x. x.state) c.written ∙ ap (λ x. x.state) p ∙ sym (ap (λ x. x.state) d.written),
       ap (λ x. x.journal) c.written ∙ ap (λ x. x.journal) p ∙ sym (ap (λ x. x.journal) d.written),

@@ -2,17 +2,14 @@
 --     linked             they are instants in a row, from the first state to the last
 --     calls_answer       every list of calls has its answered instants
 --     calls_meet         each call of the list meets its contract
---     none_made          without a call the state stays as it is
---     first_lent         where there is a call, the first state is a slice that it was lent
-use mathlib.Core.Path.{◌≡◌, refl, subst, ◌∙◌}
+use mathlib.Core.Path.{◌≡◌, subst, ◌∙◌}
 use mathlib.Core.List.{List, [], ◌∷◌, ◌++◌, Memᴰ}
 use Prim.Native.Nat.{ℕ}
 use native.Mathlib.Decide.{ℕ_discrete}
 use Rattle.laws.proofs.Sets.{on_cons}
 use Rattle.lent_maps.specs.Maps.{tokens_in}
 use Rattle.score_answer.specs.Answer.{number_in}
-use Rattle.score.specs.Slice.{Slice}
-use Rattle.claims_demands.specs.Calls.{Call, instant, run, Meets, state_before, InTurn, then, Answered, answered_by, Answers, one, refused, those}
+use Rattle.claims_demands.specs.Calls.{Call, instant, run, Meets, InTurn, then, Answered, answered_by, Answers, one, refused, those}
 use Rattle.claims_demands.specs.Calls as calls
 use Rattle.claims_demands.proofs.Instants.{accepted_instant, refused_state}
 use Rattle.claims_demands.proofs.Linked.{Linked, linked_append}
@@ -44,13 +41,3 @@ module _ {score : List ℕ} where
   pub calls_meet : {s last : List ℕ} {made : List Call} → InTurn score s made last → (call : Call) → Memᴰ call made → Meets score call
   calls_meet calls.InTurn.none call m = elim m [ ]
   calls_meet (then c at x) call m = on_cons {P = Meets score} c (calls_meet x) call m
-
-  pub none_made : {s last : List ℕ} → InTurn score s [] last → last ≡ s
-  none_made calls.InTurn.none = refl
-
-state_lent : (score : List ℕ) (call : Call) → Meets score call → Slice (state_before call)
-state_lent score (instant input before after answer) c = c.lent.1.1.0
-state_lent score (run inputs before after answer) c = c.lent.1.1.0
-
-pub first_lent : {score s last : List ℕ} {call : Call} {made : List Call} → InTurn score s (call ∷ made) last → Slice s
-first_lent {score} (then {call = call} c at x) = subst Slice at (state_lent score call c)

@@ -16,11 +16,10 @@ use Rattle.tcc.specs.Chain.{Chain, AtInstant as Along}
 use Rattle.tcc.proofs.Weight.{one_weight}
 use Rattle.tcc.proofs.Chain.{along}
 use Rattle.format.specs.Decode.{decode}
-use Rattle.lent.specs.States.{agents_in, state_of}
-use Rattle.lent.proofs.SameState.{SameState, answer_same}
-use Rattle.lent.specs.Lawful.{LawfulState}
-use Rattle.claims_demands.specs.Calls.{Answered, Running}
-use Rattle.claims_demands.specs.Determinacy.{AtInstant}
+use Rattle.lent.specs.States.{agents_in, state_of, LawfulState, SameState}
+use Rattle.lent.proofs.SameState.{answer_same}
+use Rattle.claims_demands.specs.Calls.{Answered}
+use Rattle.claims_demands.specs.Determinacy.{Running, AtInstant}
 use Rattle.claims_demands.proofs.Accepted.{lawful, state_lawful}
 use Rattle.claims_demands.proofs.Instants.{IsInstant, instant_inside}
 use Rattle.claims_demands.proofs.Linked.{Linked, linked_split, linked_first, linked_state}

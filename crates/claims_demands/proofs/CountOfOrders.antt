@@ -3,33 +3,24 @@
 --     reduced_rising       the definition's agents reduced stand in rising order
 --     ticks_are            bytes that have the bits of an order's agents have those of the definition's
 --     count_of_orders      so they have as many as the count says
---     ticks_of, ticked     bytes with the bits of the score's agents that an order reduced
---     count_not_empty      there is an order to count, and bytes with its ticks
 use mathlib.Core.Path.{◌≡◌, refl, sym, ap, subst, ◌∙◌}
 use mathlib.Core.Bool.{Bool, false, ◌&&◌}
-use mathlib.Core.List.{List, [], map, Memᴰ}
-use Prim.Native.Nat.{ℕ, ◌+◌, ◌*◌, ◌/◌, ◌%◌, ◌<◌, ◌≤◌}
+use mathlib.Core.List.{List, [], Memᴰ}
+use Prim.Native.Nat.{ℕ, ◌/◌, ◌%◌, ◌<◌, ◌≤◌}
 use native.Mathlib.Omega.{arith}
-use borrow.Author.Tests.{ltb-true, lt-ltb}
-use lib.Dec.{ltb}
 use lib.ListN.{length, get_or}
 use Rattle.laws.specs.Sets.{below, keep, any, has}
 use Rattle.laws.proofs.Booleans.{either}
 use Rattle.laws.proofs.Counted.{kept_beyond}
-use Rattle.laws.proofs.Lists.{map_at}
-use Rattle.laws.proofs.Sets.{on_keep, keep_kept, keep_none, keep_agrees, has_member, member_has, not_has, has_same, below_lt, lt_below, below_length, below_at, same_refl}
+use Rattle.laws.proofs.Sets.{on_keep, keep_none, keep_agrees, not_has, has_same, below_lt, same_refl}
 use Rattle.tcc.specs.Score.{Score, agent_at}
-use Rattle.tcc.specs.Store.{Closes, closure}
-use Rattle.tcc.specs.Order.{Item, agent, End, aborted, left, Order, Quiet, Finished, start}
+use Rattle.tcc.specs.Store.{Closes}
+use Rattle.tcc.specs.Order.{Item, End, aborted, left, Order, Quiet, Finished, start}
 use Rattle.tcc.specs.Instant.{Answer, State, running, count, reducible, is_abort, live_in, held_in, reached, instant, answer}
-use Rattle.tcc.proofs.Store.{closure_exact}
-use Rattle.tcc.proofs.Order as order
 use Rattle.tcc.proofs.Confluence.{confluence, reduced}
 use Rattle.format.specs.Decode.{decode}
-use Rattle.bits.specs.Bits.{bit_at, bits_value}
-use Rattle.bits.proofs.Bits.{bits_value_bit}
+use Rattle.bits.specs.Bits.{bit_at}
 use Rattle.bits.proofs.Filled.{has_kept}
-use Rattle.lent.specs.Lengths.{scratch_bytes}
 use Rattle.lent.specs.States.{agents_in}
 use Rattle.lent.specs.Scratch.{reduced_in}
 use Rattle.lent_maps.specs.Maps.{tokens_in}
@@ -38,10 +29,9 @@ use Rattle.score_answer.specs.Answer.{number_of, count_of, number_in, count_in}
 use Rattle.score_answer.specs.Replies.{of_reply}
 use Rattle.score.specs.ScoreInstant.{ScoreInstant}
 use Rattle.score.proofs.ScoreInstant.{read}
-use Rattle.claims_demands.specs.CountOfOrders.{Ticks, Counts, CountOfOrders, CountNotEmpty}
+use Rattle.claims_demands.specs.CountOfOrders.{Ticks, Counts, CountOfOrders}
 use Rattle.claims_demands.proofs.Accepted.{given, lawful}
 use Rattle.claims_demands.proofs.Instants.{accepted_instant}
-use Rattle.claims_demands.proofs.Rules.{by_the_rules}
 use Rattle.claims_demands.proofs.InstantExit.{Outcome, refuses, answers, outcome}
 
 module _ (score input : List ℕ) (l m : Lent) (a : ℕ) (c : ScoreInstant score input l m a) (n : number_in a ≡ 0) where
@@ -102,46 +92,3 @@ count_of_orders score input before after a call accepted runs s steps e closes o
     go (left l s') o f = λ bytes ticks.
         instant_count
         ∙ ap length (sym (ticks_are (decode score) (agents_in before.state) (tokens_in input) (lawful score (accepted_instant call accepted).accepted).agents_at_most s s' bytes steps l closes o f ticks))
-
--- the score's agents among those reduced
-abbrev gone : Score → List Item → List ℕ
-gone sc steps = keep (λ i. ltb i (length sc.agents)) (order.agents_in steps)
-
-abbrev byte_of : List ℕ → ℕ → ℕ
-byte_of l k = bits_value (λ j. has (8 * k + j) l) 8
-
-abbrev ticks_of : List ℕ → List ℕ
-ticks_of l = map (byte_of l) (below scratch_bytes)
-
-bit_ticked : (l : List ℕ) (i : ℕ) → i < 1024 → bit_at (get_or (ticks_of l) (i / 8) 0) (i % 8) ≡ has i l
-bit_ticked l i h =
-    let e : 8 * (i / 8) + i % 8 ≡ i = omega arith in
-    ap (λ w. bit_at w (i % 8)) (map_at (byte_of l) (below scratch_bytes) (i / 8) 0 0 (omega (arith, below_length scratch_bytes)) ∙ ap (byte_of l) (below_at scratch_bytes (i / 8) (omega arith)))
-    ∙ bits_value_bit (λ j. has (8 * (i / 8) + j) l) 8 (i % 8) (omega arith)
-    ∙ ap (λ k. has k l) e
-
-ticks_back : (l : List ℕ) (i : ℕ) → Memᴰ i (reduced_in (ticks_of l)) → Memᴰ i l
-unfolding reduced_in
-ticks_back l = on_keep (λ i. bit_at (get_or (ticks_of l) (i / 8) 0) (i % 8)) (below 1024) (λ i m e. has_member i l (sym (bit_ticked l i (below_lt 1024 i m)) ∙ e))
-
-ticks_there : (l : List ℕ) (i : ℕ) → i < 1024 → Memᴰ i l → Memᴰ i (reduced_in (ticks_of l))
-unfolding reduced_in
-ticks_there l i h m = keep_kept (λ j. bit_at (get_or (ticks_of l) (j / 8) 0) (j % 8)) (lt_below 1024 h) (bit_ticked l i h ∙ member_has m)
-
-ticked : (sc : Score) (steps : List Item) → length sc.agents ≤ 1024 → Ticks sc steps (ticks_of (gone sc steps))
-ticked sc steps few = record {
-  known = λ i m. on_keep {P = λ j. j < length sc.agents} known_agent (order.agents_in steps) (λ j k e. ltb-true j (length sc.agents) e) i (ticks_back (gone sc steps) i m);
-  went = λ i m. on_keep {P = λ j. Memᴰ (agent j) steps} known_agent (order.agents_in steps) (λ j k e. order.agents_in_lem steps k) i (ticks_back (gone sc steps) i m);
-  all = λ i h m. ticks_there (gone sc steps) i (omega arith) (keep_kept known_agent (order.in_agents steps m) (lt-ltb i (length sc.agents) h));
-}
-  where
-    known_agent : ℕ → Bool
-    known_agent i = ltb i (length sc.agents)
-
-pub count_not_empty : CountNotEmpty
-count_not_empty score input before after a call accepted runs =
-    let h = accepted_instant call accepted in (
-      (closure (decode score) [], closure_exact (decode score) []),
-      λ s closes. let x = (by_the_rules h).some runs s closes in (x.0, x.1, x.2, x.3),
-      λ steps. (ticks_of (gone (decode score) steps), ticked (decode score) steps (lawful score h.accepted).agents_at_most),
-    )

@@ -23,9 +23,9 @@ use Rattle.tcc.specs.Instant as state
 use Rattle.tcc.specs.Confluence.{QuietAs, EndsAs}
 use Rattle.tcc.proofs.SameAnswer.{SameAnswer}
 use Rattle.format.specs.Decode.{decode}
-use Rattle.lent.specs.States.{state_of, instant_number, numbered, next_bytes}
-use Rattle.lent.proofs.SameState.{SameState, state_running, state_aborted}
+use Rattle.lent.specs.States.{state_of, instant_number, numbered, next_bytes, SameState}
 use Rattle.lent.proofs.Numbered.{numbered_same}
+use Rattle.lent.proofs.SameState.{state_running, state_aborted}
 use Rattle.lent_maps.specs.Maps.{tokens_in, map_of}
 use Rattle.lent_maps.proofs.Round.{map_of_same, map_round}
 use Rattle.journal_words.proofs.Rising.{none_rising, rising_map}

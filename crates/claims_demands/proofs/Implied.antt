@@ -24,8 +24,7 @@ use Rattle.tcc.specs.Chain.{Chain, none, then}
 use Rattle.tcc.specs.declared.Agent.TheVariants.{Next}
 use Rattle.tcc.proofs.Order.{Done, order_ran}
 use Rattle.format.specs.Decode.{decode}
-use Rattle.lent.specs.States.{agents_in, numbered}
-use Rattle.lent.specs.Lawful.{LawfulState}
+use Rattle.lent.specs.States.{agents_in, numbered, LawfulState}
 use Rattle.lent.proofs.Numbered.{numbered_round}
 use Rattle.lent.proofs.SameState.{state_running}
 use Rattle.lent_maps.specs.Maps.{tokens_in}
@@ -35,9 +34,9 @@ use Rattle.journal_run.specs.RunCall.{Lent as RunLent}
 use Rattle.score_answer.specs.Answer.{number_in, value_in}
 use Rattle.score.specs.ScoreInstant.{ScoreInstant}
 use Rattle.score.specs.ScoreRun.{ScoreRun}
-use Rattle.claims_demands.specs.Calls.{Call, instant, run, InTurn, Answered, answered_by, written, Plays, Answers, one, refused, those, Running}
+use Rattle.claims_demands.specs.Calls.{Call, instant, run, InTurn, Answered, answered_by, written, Plays, Answers, one, refused, those}
 use Rattle.claims_demands.specs.Calls as calls
-use Rattle.claims_demands.specs.Determinacy.{QuietLike, AtInstant, Determinacy}
+use Rattle.claims_demands.specs.Determinacy.{Running, QuietLike, AtInstant, Determinacy}
 
 twice_same : (l : List ℕ) → Same (l ++ l) l
 twice_same l x = (λ m. ⊎_elim (λ (k : Memᴰ x l). k) (λ (k : Memᴰ x l). k) (Memᴰ.append_cases l m), λ m. Memᴰ.append_left l m)

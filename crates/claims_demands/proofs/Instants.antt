@@ -21,8 +21,7 @@ use Rattle.format.specs.Decode.{sizes, decode}
 use Rattle.check_verdicts.specs.Verdicts.{verdict_number}
 use Rattle.check_score.specs.Check as check
 use Rattle.lent.specs.Lengths.{state_bytes}
-use Rattle.lent.specs.States.{state_fault, state_of, instant_number, next_bytes, at_last}
-use Rattle.lent.proofs.SameState.{SameState}
+use Rattle.lent.specs.States.{state_fault, state_of, instant_number, next_bytes, at_last, SameState}
 use Rattle.lent.proofs.Numbered.{numbered_round}
 use Rattle.lent_maps.specs.Maps.{tokens_in, map_of}
 use Rattle.instant_state.proofs.Inside.{Inside, after_lawful}

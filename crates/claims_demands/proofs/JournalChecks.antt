@@ -18,8 +18,7 @@ use Rattle.format.proofs.Decode.{decode_tokens}
 use Rattle.check_verdicts.specs.Verdicts.{verdict_number}
 use Rattle.check_score.specs.Check as check
 use Rattle.bits.specs.Bits.{bytes_of}
-use Rattle.lent.specs.States.{state_fault, as_bytes, instant_number, start_bytes, next_bytes, last_number, at_last}
-use Rattle.lent.specs.Lawful.{LawfulState}
+use Rattle.lent.specs.States.{state_fault, as_bytes, instant_number, start_bytes, next_bytes, last_number, at_last, LawfulState}
 use Rattle.lent.proofs.Numbered.{number_round}
 use Rattle.lent.specs.Lengths.{scratch_bytes, no_scratch}
 use Rattle.journal_form.specs.declared.Form.{Form}

@@ -18,7 +18,7 @@ use Rattle.claims_demands.proofs.JournalChecks.{history_accepted, accepted_histo
 pub exactly : Exactly
 exactly score journal before after answer n accepted long c =
     let r = read score journal before after answer c in (
-      λ e. accepted_history score accepted journal before long c.lent.1.0 n (sym r.number ∙ e.0) (sym r.value ∙ e.1),
+      λ e. accepted_history score accepted journal before long c.lent n (sym r.number ∙ e.0) (sym r.value ∙ e.1),
       λ h few.
           let e = history_accepted score accepted journal before long n h few in
           (r.number ∙ ap (λ x. number_of (of_run_reply x)) e, r.value ∙ ap (λ x. value_of (of_run_reply x)) e),

@@ -1,7 +1,6 @@
 pub mod Accepted
 pub mod InstantExit
 pub mod Instants
-pub mod Made
 pub mod Linked
 pub mod RunExit
 pub mod Played

@@ -15,8 +15,8 @@ use native.Mathlib.Omega.{arith}
 use Rattle.laws.proofs.Sets.{Within, on_cons}
 use Rattle.tcc.specs.Instant.{after, state_after}
 use Rattle.format.specs.Decode.{sizes, decode}
-use Rattle.lent.specs.States.{state_fault, state_of}
-use Rattle.lent.proofs.SameState.{SameState, state_refl, state_trans, along_same}
+use Rattle.lent.specs.States.{state_fault, state_of, SameState}
+use Rattle.lent.proofs.SameState.{state_refl, state_trans, along_same}
 use Rattle.claims_demands.specs.Calls.{Answered}
 use Rattle.claims_demands.proofs.Accepted.{given}
 use Rattle.claims_demands.proofs.Instants.{made_by, IsInstant, after_round}

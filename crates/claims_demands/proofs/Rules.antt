@@ -14,9 +14,9 @@ use Rattle.tcc.proofs.Multiset.{start_below}
 use Rattle.tcc.proofs.Confluence.{confluence}
 use Rattle.tcc.proofs.Finishes.{finishes}
 use Rattle.format.specs.Decode.{decode}
-use Rattle.lent.specs.States.{agents_in}
-use Rattle.lent.specs.Lawful.{LawfulState}
-use Rattle.claims_demands.specs.Calls.{Answered, Running}
+use Rattle.lent.specs.States.{agents_in, LawfulState}
+use Rattle.claims_demands.specs.Calls.{Answered}
+use Rattle.claims_demands.specs.Determinacy.{Running}
 use Rattle.claims_demands.specs.Operational.{Leaves, ByTheRules}
 use Rattle.claims_demands.proofs.Accepted.{lawful, state_lawful}
 use Rattle.claims_demands.proofs.Instants.{IsInstant}

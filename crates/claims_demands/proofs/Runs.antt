@@ -127,7 +127,7 @@ module _ {score inputs : List ℕ} {l m : run.Lent} {a : ℕ} (c : ScoreRun scor
     where
       go : Ended score inputs l m a → (played : List Answered) × (last : List ℕ) × Plays score l.state (take (written a) (input_lists inputs)) played last
       go (refused n e) = rw n ([], l.state, none)
-      go (ran f n e) = rw n (plays score f.accepted c.lent.0 (input_lists inputs) f.rising l.state c.lent.1.1.0 f.long f.faultless (length l.journal))
+      go (ran f n e) = rw n (plays score f.accepted (input_lists inputs) f.rising l.state f.long f.faultless (length l.journal))
 
   -- where nothing is written, all is as it was
   unplayed : {played : List Answered} {last : List ℕ} → m ≡ l → Plays score l.state [] played last → Shows l m played last

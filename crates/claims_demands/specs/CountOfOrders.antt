@@ -3,8 +3,6 @@
 --     Ticks            bytes in which the bits set are those of the score's agents that an order reduced
 --     Counts           what a number is, by an order's end: 0 where it aborts, else the bits set in any such bytes
 --     CountOfOrders    the count of an accepted instant call from a running state, for every finished order
---     CountNotEmpty    so that the claim is not empty: for such a call there is a closed store, from each one a
---                      finished order, and to whatever an order reduced there are bytes with its ticks
 use Rattle.std.specs.Prelude.{◌≡◌, ℕ, ◌<◌, length}
 use mathlib.Core.List.{List, [], Memᴰ}
 use Rattle.tcc.specs.Score.{Score}
@@ -17,7 +15,7 @@ use Rattle.lent_maps.specs.Maps.{tokens_in}
 use Rattle.instant_call.specs.InstantCall.{Lent}
 use Rattle.score_answer.specs.Answer.{number_in, count_in}
 use Rattle.score.specs.ScoreInstant.{ScoreInstant}
-use Rattle.claims_demands.specs.Calls.{Running}
+use Rattle.claims_demands.specs.Determinacy.{Running}
 
 pub record Ticks (sc : Score) (steps : List Item) (bytes : List ℕ) : Type 0 where
   pub known : (i : ℕ) → Memᴰ i (reduced_in bytes) → i < length sc.agents
@@ -30,18 +28,6 @@ Counts sc steps (left l s) n = (bytes : List ℕ) → Ticks sc steps bytes → n
 
 abbrev pub CountOfOrders : Type 0
 CountOfOrders =
-    (score input : List ℕ) (before after : Lent) (answer : ℕ) → ScoreInstant score input before after answer →
-    number_in answer ≡ 0 → Running before.state →
-    (s : List ℕ) (steps : List Item) (e : End) → Closes (decode score) [] s →
-    Order (decode score) (start (agents_in before.state) (tokens_in input)) s steps e →
+    (score input : List ℕ) (before after : Lent) (answer : ℕ) → ScoreInstant score input before after answer → number_in answer ≡ 0 → Running before.state →
+    (s : List ℕ) (steps : List Item) (e : End) → Closes (decode score) [] s → Order (decode score) (start (agents_in before.state) (tokens_in input)) s steps e →
     Finished (decode score) e → Counts (decode score) steps e (count_in answer)
-
-abbrev pub CountNotEmpty : Type 0
-CountNotEmpty =
-    (score input : List ℕ) (before after : Lent) (answer : ℕ) →
-    ScoreInstant score input before after answer → number_in answer ≡ 0 → Running before.state →
-    ((s : List ℕ) × Closes (decode score) [] s)
-    × ((s : List ℕ) → Closes (decode score) [] s →
-    (steps : List Item) × (e : End) × Order (decode score) (start (agents_in before.state) (tokens_in input)) s steps e
-    × Finished (decode score) e)
-    × ((steps : List Item) → (bytes : List ℕ) × Ticks (decode score) steps bytes)

@@ -2,6 +2,7 @@
 --     word_before        a word with bit 27 clear has the rule and the verdict of before
 --     judged_before      so has any word that is no rule word with bit 27 set, of its verdict
 --     faults_before      so the lowest fault of words without a fact is that of before
+--     circles_before     unguarded calls rest on no rule
 --     verdict_before_lem  so the verdict on a score without a fact is that of before
 --     score_before       and what it stands for, if it is accepted
 use mathlib.Core.Path.{◌≡◌, refl, sym, ap, ap₂, ◌∙◌}
@@ -15,21 +16,23 @@ use lib.Dec.{ltb}
 use lib.ListN.{length, get_or, drop, length-drop}
 use lib.Seq.{get_or-drop}
 use Rattle.laws.proofs.Lists.{map_entries}
+use Rattle.tcc.specs.Unguarded.{met_from, circular}
 use Rattle.words.specs.Word.{field, kind, words, word_at}
 use Rattle.format.specs.declared.Sizes.{Sizes}
 use Rattle.format.specs.Format.{is_word, decode_agent, is_fact, is_rule, rule_of}
 use Rattle.format.specs.Decode.{sizes, decode}
 use Rattle.format.proofs.Rule.{word_kind, rule_plain, rule_kind, premises_plain}
 use Rattle.check_verdicts.specs.Verdicts.{verdict_number, or_else}
+use Rattle.check_verdicts.specs.declared.Verdict.TheVariants.{Circle}
 use Rattle.check_verdicts.proofs.Verdicts.{accepted_only}
 use Rattle.check_words.specs.WordFaults.{ports_verdict, agent_verdict, root_verdict, rule_verdict}
 use Rattle.check_words.proofs.AtWord.{form_first}
 use Rattle.check_faults.specs.Faults.{length_verdict, head_verdict, count_verdict, word_verdict, first_fault}
 use Rattle.check_faults.proofs.Accepted.{rules_formed}
+use Rattle.check_circles.specs.Circles.{circle_from}
 use Rattle.check_score.specs.Check.{verdict}
 use Rattle.check_score.proofs.Lawful.{accepted_faultless}
 use Rattle.claims_facts.specs.WithoutFacts.{rule_before, rule_verdict_before, word_verdict_before, first_fault_before, decode_before, verdict_before, NoFact, WordBefore}
-use Rattle.claims_facts.proofs.OneMore.{circles_rules}
 
 module _ (w : ℕ) where
   pub word_before : field w 27 1 ≡ 0 → WordBefore w
@@ -70,13 +73,18 @@ faults_before h k (w ∷ ws) no-fact = ap₂ or_else
     (placed_before h k w (λ le. no-fact zero (omega arith) (omega arith)))
     (faults_before h (suc k) ws (λ i lt le. no-fact (suc i) (omega arith) (omega arith)))
 
+circles_before : (s : List ℕ) (p left : ℕ) → circle_from (decode s) p left ≡ circle_from (decode_before s) p left
+unfolding decode circle_from circular met_from
+circles_before s p zero = refl
+circles_before s p (suc left) = ap (cond (circular (decode s) p) (Circle p)) (circles_before s (suc p) left)
+
 module _ (s : List ℕ) (no-fact : NoFact s) where
   pub verdict_before_lem : verdict s ≡ verdict_before s
   unfolding verdict decode
   verdict_before_lem =
       ap₂ (λ faults circles. or_else (length_verdict (length s)) (or_else (head_verdict (word_at s 0)) (or_else (count_verdict (sizes s) (length (words s))) (or_else faults circles))))
       (faults_before (sizes s) 1 (drop 1 (words s)) (λ i lt le. rw (get_or-drop 1 (words s) i 0) (no-fact (1 + i) le (omega (arith, length-drop 1 (words s))))))
-      (sym (circles_rules (decode s) (decode_before s).rules 0 (length (decode s).roots)))
+      (circles_before s 0 (length (decode s).roots))
 
   pub score_before : verdict_number (verdict s) ≡ 0 → decode s ≡ decode_before s
   unfolding decode

@@ -1,7 +1,7 @@
 -- A token that an agent tells at every instant can be made a standing fact.
 --     alike              two consoles
 --     journals_stand     the journal check
---     fact_for_told      the theorem
+--     fact_for_told      both: the theorem
 use mathlib.Core.Path.{refl}
 use Rattle.score_answer.specs.Answer.{value_in}
 use Rattle.claims_demands.proofs.Accepted.{lawful}
@@ -9,7 +9,6 @@ use Rattle.claims_demands.proofs.Calls.{linked}
 use Rattle.claims_demands.proofs.JournalExact.{exactly}
 use Rattle.claims_facts.specs.FactForTold.{Alike, JournalsStand, FactForTold}
 use Rattle.claims_facts.proofs.OneMore.{adds_fact}
-use Rattle.claims_facts.proofs.FactAccepted.{fact_accepted}
 use Rattle.claims_facts.proofs.Rows.{linked_told}
 use Rattle.claims_facts.proofs.Histories.{is_history}
 
@@ -20,8 +19,8 @@ alike t score score' first last last' calls calls' answered answered' x turn ans
 journals_stand : JournalsStand
 journals_stand t score score' journal before after before' after' answer answer' x long long' c c' told zero =
     let h = (exactly score journal before after answer (value_in answer) x.accepted long c).0 (zero, refl) in
-    (exactly score' journal before' after' answer' (value_in answer) (fact_accepted t score score' x) long' c').1
+    (exactly score' journal before' after' answer' (value_in answer) x.accepted' long' c').1
     (is_history (adds_fact x) (lawful score x.accepted) h.0 told) h.1
 
 pub fact_for_told : FactForTold
-fact_for_told = (fact_accepted, alike, journals_stand)
+fact_for_told = (alike, journals_stand)

@@ -12,17 +12,17 @@ use Rattle.tcc.specs.Lawful.{Lawful}
 use Rattle.tcc.specs.Instant.{Answer, State, start_state, answer, after, answers}
 use Rattle.tcc.proofs.SameAnswer.{SameAnswer, answer_trans}
 use Rattle.bits.specs.Bits.{bytes_of}
-use Rattle.lent.proofs.SameState.{SameState, state_refl, answer_same, after_same}
+use Rattle.lent.specs.States.{SameState}
+use Rattle.lent.proofs.SameState.{state_refl, answer_same, after_same}
 use Rattle.journal_instants.specs.Instants.{input_lists}
-use Rattle.journal_words.specs.History.{entry, history, RisingBelow, IsHistory}
-use Rattle.journal_words.proofs.Histories.{history_inputs}
-use Rattle.claims_facts.proofs.SamePlay.{entry_alike}
+use Rattle.journal_words.specs.History.{instant_words, entry, history, RisingBelow, IsHistory}
+use Rattle.journal_words.proofs.Histories.{entry_same, history_inputs}
 use Rattle.claims_facts.proofs.OneMore.{OneMore}
-use Rattle.claims_facts.proofs.Told.{Told, answer_told, outputs_kept, start_kept, tokens_kept}
+use Rattle.claims_facts.proofs.Told.{Told, answer_told, output_kept, start_kept, tokens_kept}
 
 module _ {t : ℕ} {sc sc' : Score} (x : OneMore t sc sc') where
   entry_told : (inputs : List ℕ) {a b : Answer} → SameAnswer a b → entry sc inputs a ≡ entry sc' inputs b
-  entry_told inputs same = entry_alike (outputs_kept x) same inputs
+  entry_told inputs {b = b} same = entry_same sc inputs same ∙ ap (instant_words b.status inputs) (output_kept x b.status b.store)
 
   history_told : (l : List (List ℕ)) (st st' : State) → SameState st st' → Within (Told t) (answers sc st l) → history sc st l ≡ history sc' st' l
   unfolding history answers

@@ -1,17 +1,9 @@
-pub mod SameExits
-pub mod SamePlay
-pub mod ByReading
 pub mod Before
 pub mod WithoutFacts
 pub mod FactsHold
 pub mod Word
 pub mod OneMore
-pub mod FactAccepted
 pub mod Told
 pub mod Rows
 pub mod Histories
 pub mod FactForTold
-pub mod Skips
-pub mod SkippedWords
-pub mod SkipsTaken
-pub mod SkipForTold

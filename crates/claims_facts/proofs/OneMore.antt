@@ -1,39 +1,29 @@
 -- A score with a standing fact more, as it is decoded.
 --     with_rules         a score with other rules
---     circles_rules      unguarded calls rest on no rule
 --     OneMore            two scores that are the same but for a fact among the rules of the second
 --     part_front         words that lie within the front of a list are the front's
 --     score_of, rules_in  the score that words stand for, where all but rules is in its front; the rules in the front
 --     word_front, words_decoded     bytes whose words begin with that front stand for such a score
 --     adds_fact          so bytes with a fact word more among the rules stand for a score with the fact more
-use mathlib.Core.Path.{◌≡◌, refl, sym, ap, ◌∙◌}
-use mathlib.Core.Bool.{cond}
+use mathlib.Core.Path.{◌≡◌, sym, ap, ◌∙◌}
 use mathlib.Core.List.{List, ◌∷◌, ◌++◌, map, map-append}
-use Prim.Native.Nat.{ℕ, zero, suc, ◌+◌, ◌<◌, ◌≤◌}
+use Prim.Native.Nat.{ℕ, ◌+◌, ◌<◌, ◌≤◌}
 use native.Mathlib.Omega.{arith}
 use lib.ListN.{length, get_or, take, drop, length-drop, get_or-append}
 use lib.Seq.{take-append-le, drop-append-le}
 use Rattle.tcc.specs.Closure.{Rule}
 use Rattle.tcc.specs.Score.{Score}
-use Rattle.tcc.specs.Unguarded.{met_from, circular}
 use Rattle.words.specs.Word.{field, words, word_at}
 use Rattle.format.specs.declared.Sizes.{Sizes}
 use Rattle.format.specs.Format.{sizes_of, agent_of, rule_of}
 use Rattle.format.specs.Decode.{sizes, decode}
 use Rattle.format.proofs.Decode.{sizes_few}
-use Rattle.check_verdicts.specs.declared.Verdict.TheVariants.{Circle}
-use Rattle.check_circles.specs.Circles.{circle_from}
 use Rattle.claims_facts.specs.FactForTold.{fact_word, AddsFact}
 use Rattle.claims_facts.proofs.Word.{fact, fact_rule}
 
 abbrev pub with_rules : Score → List (Rule ℕ) → Score
 with_rules sc rules =
     record { tokens = sc.tokens; lowest_port = sc.lowest_port; highest_port = sc.highest_port; agents = sc.agents; roots = sc.roots; rules = rules }
-
-pub circles_rules : (sc : Score) (rules : List (Rule ℕ)) (p left : ℕ) → circle_from (with_rules sc rules) p left ≡ circle_from sc p left
-unfolding circle_from circular met_from
-circles_rules sc rules p zero = refl
-circles_rules sc rules p (suc left) = ap (cond (circular sc p) (Circle p)) (circles_rules sc rules (suc p) left)
 
 pub record OneMore (t : ℕ) (sc sc' : Score) : Type 0 where
   pub before : List (Rule ℕ)
@@ -65,7 +55,7 @@ abbrev rules_in : List ℕ → List (Rule ℕ)
 rules_in front = map rule_of (drop (rules_from front) front)
 
 module _ (s front more : List ℕ) (are : words s ≡ front ++ more) where
-  pub word_front : (i : ℕ) → i < length front → word_at s i ≡ get_or front i 0
+  word_front : (i : ℕ) → i < length front → word_at s i ≡ get_or front i 0
   word_front i h = ap (λ ws. get_or ws i 0) are ∙ get_or-append front more 0 i h
 
   words_decoded : rules_from front ≤ length front → decode s ≡ score_of front (rules_in front ++ map rule_of more)

@@ -7,7 +7,7 @@
 --     sound_more         what is reached without the fact is reached with it
 --     settled_more       so an instant without a live abort, whose store has the token, has the same answer with the fact
 --     instant_told       and one with a live abort; state_told, in any state
---     answer_told, outputs_kept, start_kept, tokens_kept     so of scores that are the same but for the fact
+--     answer_told, output_kept, start_kept, tokens_kept     so of scores that are the same but for the fact
 use mathlib.Core.Path.{◌≡◌, refl, sym, ap, subst, subst₂, ◌∙◌}
 use mathlib.Core.List.{List, [], ◌∷◌, ◌++◌, Memᴰ}
 use Prim.Native.Nat.{ℕ}
@@ -22,7 +22,6 @@ use Rattle.tcc.proofs.Closure.{Follows}
 use Rattle.tcc.proofs.FixedPoint.{Reached, reached_least, reach, settles, aborts}
 use Rattle.tcc.proofs.Output.{output_agrees}
 use Rattle.tcc.proofs.SameAnswer.{SameAnswer, answer_refl, both_settled, lives, store, marks_closed, marks_sound, abort_cases, own_aborting, own_settling}
-use Rattle.claims_facts.proofs.SamePlay.{SameOutputs}
 use Rattle.claims_facts.proofs.Word.{fact}
 use Rattle.claims_facts.proofs.OneMore.{with_rules, OneMore}
 
@@ -109,8 +108,8 @@ module _ {t : ℕ} {sc sc' : Score} (x : OneMore t sc sc') where
   answer_told st inputs =
       subst₂ (λ a b. Told t (answer a st inputs) → SameAnswer (answer a st inputs) (answer b st inputs)) (sym x.without) (sym x.with_fact) (state_told sc x.before x.rest t st inputs)
 
-  pub outputs_kept : SameOutputs sc sc'
-  outputs_kept = record { sent = λ status store. sym (ap (λ s. output s status store) x.with_fact ∙ output_rules sc (x.before ++ fact t ∷ x.rest) status store) }
+  pub output_kept : (status : ℕ) (store : List ℕ) → output sc status store ≡ output sc' status store
+  output_kept status store = sym (ap (λ s. output s status store) x.with_fact ∙ output_rules sc (x.before ++ fact t ∷ x.rest) status store)
 
   pub start_kept : start_state sc ≡ start_state sc'
   start_kept = ap start_state (sym x.with_fact)

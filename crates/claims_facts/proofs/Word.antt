@@ -15,11 +15,11 @@ use Rattle.claims_facts.specs.FactForTold.{fact_word}
 abbrev pub fact : ℕ → Rule ℕ
 fact t = record { premises = []; conclusion = t }
 
-pub fact_bit : (t : ℕ) → t < 256 → field (fact_word t) 27 1 ≡ 1
+fact_bit : (t : ℕ) → t < 256 → field (fact_word t) 27 1 ≡ 1
 unfolding field
 fact_bit t h = omega arith
 
-pub fact_token : (t : ℕ) → t < 256 → field (fact_word t) 0 8 ≡ t
+fact_token : (t : ℕ) → t < 256 → field (fact_word t) 0 8 ≡ t
 unfolding field
 fact_token t h = omega arith
 

@@ -1,5 +1,3 @@
-pub mod ByReading
 pub mod WithoutFacts
 pub mod FactsHold
 pub mod FactForTold
-pub mod SkipForTold

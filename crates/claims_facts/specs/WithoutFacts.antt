@@ -1,20 +1,18 @@
--- "Scores without such words keep their journals byte for byte." What a call does hangs on the verdict and on the
--- decoded score alone (ByReading), and these two are those of before: the rule of a word, the score check and what a
--- score stands for are written out here as they were before there were facts. So are the instants and the journals.
+-- "Scores without such words keep their journals byte for byte." A rule word before there were facts, and with it the score
+-- check, what a score stands for, and what each call does with every buffer lent, written out as they were.
 --     rule_before, rule_verdict_before  the rule of a word, and rows 4 and 5 at it
 --     verdict_before, decode_before     the score check, and the score that bytes stand for
---     history_before                    the journal of n instants from its start state, as words
+--     instant_before                    the instant call
+--     run_from_before, run_before       the run, instant by instant and as a call
+--     check_from_before, check_before   the journal check likewise
 --     WordBefore                        a word has the rule and the verdict of before
 --     NoFact                            a score has no rule word with bit 27 set
---     ReadBefore                        a score has the verdict of before and, if accepted, is the score of before
---     PlaysBefore                       each answered instant is by the rules of the score of before; what a run writes
---                                       from the start is its history, and the journal check accepts exactly that
---     WithoutFacts                      so it is with each word with bit 27 clear, and with each score without a fact
-use Rattle.std.specs.Prelude.{◌≡◌, cond, false, ℕ, suc, ◌+◌, ◌-◌, ◌*◌, ◌<◌, ◌≤◌, ltb, length, take, drop}
-use mathlib.Core.List.{List, [], ◌∷◌, ◌++◌, map, Memᴰ}
+--     CallsBefore                       every call does with a score what it did, in every byte, and answers as it did
+--     WithoutFacts                      so with each word with bit 27 clear, and with each score without a fact
+use Rattle.std.specs.Prelude.{◌≡◌, cond, true, false, not, ◌&&◌, List, [], ◌∷◌, map, ℕ, suc, ◌+◌, ◌-◌, ◌*◌, ◌<◌, ◌≤◌, eqb, ltb, length, take, drop}
 use Rattle.tcc.specs.Closure.{Rule}
 use Rattle.tcc.specs.Score.{Score}
-use Rattle.tcc.specs.Instant.{start_state}
+use Rattle.tcc.specs.Instant.{Answer, answer, after}
 use Rattle.words.specs.Word.{field, kind, words, word_at}
 use Rattle.format.specs.declared.Sizes.{Sizes}
 use Rattle.format.specs.Format.{is_word, agent_of, decode_agent, rule_of}
@@ -26,18 +24,28 @@ use Rattle.check_words.specs.WordFaults.{at_word, ports_verdict, agent_verdict, 
 use Rattle.check_faults.specs.Faults.{length_verdict, head_verdict, count_verdict}
 use Rattle.check_circles.specs.Circles.{circle_from}
 use Rattle.check_score.specs.Check.{verdict}
-use Rattle.bits.specs.Bits.{bytes_of}
-use Rattle.lent.specs.Lengths.{scratch_bytes}
-use Rattle.lent.specs.States.{start_bytes, last_number}
-use Rattle.journal_instants.specs.Instants.{input_lists}
-use Rattle.journal_words.specs.History.{history, IsHistory}
-use Rattle.journal_run.specs.RunCall.{Lent}
-use Rattle.score_answer.specs.Answer.{number_in, value_in}
+use Rattle.lent.specs.Lengths.{scratch_bytes, no_scratch}
+use Rattle.lent.specs.States.{state_fault, state_of, as_bytes, start_bytes, next_bytes, at_last}
+use Rattle.lent_maps.specs.Maps.{tokens_in}
+use Rattle.instant_call.specs.InstantCall.{Lent, Exit, length_fault, token_fault, kept, cleared, answered}
+use Rattle.instant_call.specs.declared.Reply.TheVariants.{Score as Turned, Lengths, State, Input, Last, Next}
+use Rattle.journal_form.specs.Form.{form_of}
+use Rattle.journal_instants.specs.Instants.{instants_in, inputs_in, input_lists}
+use Rattle.journal_words.specs.History.{entry}
+use Rattle.journal_step.specs.declared.Reply as history
+use Rattle.journal_step.specs.declared.Reply.TheVariants as reply
+use Rattle.journal_step.specs.ByForm.{by_form}
+use Rattle.journal_run_list.specs.declared.Stop.TheVariants.{Not}
+use Rattle.journal_run_list.specs.Run.{Ran, stop_at, stopped, unless_stopped}
+use Rattle.journal_run.specs.RunCall as run
+use Rattle.journal_check.specs.Check.{same}
+use Rattle.journal_check.specs.JournalCheckCall as journalcheck
+use Rattle.score_answer.specs.Answer.{packed}
+use Rattle.score_answer.specs.Replies.{of_verdict, of_reply, of_run_reply}
+use Rattle.score.specs.CheckCall.{CheckCall}
+use Rattle.score.specs.ScoreInstant.{ScoreInstant}
 use Rattle.score.specs.ScoreRun.{ScoreRun}
 use Rattle.score.specs.ScoreJournalCheck.{ScoreJournalCheck}
-use Rattle.claims_demands.specs.Calls.{Call, InTurn, Answered, Answers, written}
-use Rattle.claims_demands.specs.Operational.{ByTheRules}
-use Rattle.claims_facts.specs.ByReading.{ByReading}
 
 -- "conclusion 7..0, premises 15..8 and 23..16"
 abbrev pub rule_before : ℕ → Rule ℕ
@@ -76,42 +84,64 @@ verdict_before s =
     (or_else (first_fault_before (sizes s) 1 (drop 1 (words s)))
     (circle_from (decode_before s) 0 (length (decode_before s).roots)))))
 
-abbrev pub history_before : List ℕ → List ℕ → ℕ → List ℕ
-history_before score inputs n =
-    history (decode_before score) (start_state (decode_before score)) (take n (input_lists inputs))
+abbrev pub played_before : List ℕ → Lent → Answer → Exit
+played_before score l a = cond (state_fault (sizes score).agents (as_bytes (after a))) (cleared l Next) (answered (decode_before score) l.state a)
+
+abbrev pub instant_before : List ℕ → List ℕ → Lent → Exit
+instant_before score input l =
+    cond (not (eqb (verdict_number (verdict_before score)) 0)) (kept l (Turned (verdict_before score)))
+    (cond (length_fault input l) (kept l Lengths)
+    (cond (state_fault (sizes score).agents l.state) (kept l State)
+    (cond (token_fault score input) (kept l Input)
+    (cond (at_last l.state) (kept l Last)
+    (played_before score l (answer (decode_before score) (state_of l.state) (tokens_in input)))))))
+
+abbrev pub run_from_before : List ℕ → List ℕ → ℕ → List (List ℕ) → Ran
+run_from_before score state room [] = stopped state Not
+run_from_before score state room (inputs ∷ more) =
+    let a = answer (decode_before score) (state_of state) inputs in
+    let e = entry (decode_before score) inputs a in
+    unless_stopped (stop_at score (at_last state) a (4 * length e) room) state e (run_from_before score (next_bytes state a) (room - 4 * length e) more)
+
+abbrev pub run_before : List ℕ → List ℕ → run.Lent → run.Exit
+run_before score inputs l =
+    cond (not (eqb (verdict_number (verdict_before score)) 0)) (run.kept l (reply.Score (verdict_before score)))
+    (cond (run.length_fault l) (run.kept l reply.Lengths)
+    (cond (state_fault (sizes score).agents l.state) (run.kept l reply.State)
+    (by_form (form_of false (sizes score).tokens inputs) (run.kept l)
+    (run.ended l (run_from_before score l.state (length l.journal) (input_lists inputs))))))
+
+abbrev pub check_from_before : List ℕ → List ℕ → ℕ → List (List ℕ) → history.Reply
+check_from_before score state read [] = reply.Accepted read
+check_from_before score state read (ws ∷ more) =
+    let a = answer (decode_before score) (state_of state) (inputs_in ws) in
+    cond (state_fault (sizes score).agents (as_bytes (after a))) reply.Unlawful
+    (cond (not (at_last state) && same ws (entry (decode_before score) (inputs_in ws) a)) (check_from_before score (next_bytes state a) (suc read) more) (reply.Differs read))
+
+abbrev pub check_before : List ℕ → List ℕ → List ℕ → journalcheck.Exit
+check_before score journal scratch =
+    cond (not (eqb (verdict_number (verdict_before score)) 0)) (journalcheck.left scratch (reply.Score (verdict_before score)))
+    (cond (not (eqb (length scratch) scratch_bytes)) (journalcheck.left scratch reply.Lengths)
+    (by_form (form_of true (sizes score).tokens journal) (journalcheck.left scratch)
+    (journalcheck.left no_scratch (check_from_before score (start_bytes (decode_before score)) 0 (instants_in (words journal))))))
 
 pub record WordBefore (w : ℕ) : Type 0 where
   pub rule : rule_of w ≡ rule_before w
   pub verdict : (h : Sizes) (k : ℕ) → rule_verdict h k w ≡ rule_verdict_before h k w
 
 abbrev pub NoFact : List ℕ → Type 0
-NoFact s =
-    (k : ℕ) → 2 + (sizes s).agents + (sizes s).procedures ≤ k → k < length (words s) →
-    kind (word_at s k) ≡ 2 → field (word_at s k) 27 1 ≡ 0
+NoFact s = (k : ℕ) → 2 + (sizes s).agents + (sizes s).procedures ≤ k → k < length (words s) → kind (word_at s k) ≡ 2 → field (word_at s k) 27 1 ≡ 0
 
-pub record ReadBefore (score : List ℕ) : Type 0 where
+pub record CallsBefore (score : List ℕ) : Type 0 where
   pub verdict_is : verdict score ≡ verdict_before score
   pub score_is : verdict_number (verdict_before score) ≡ 0 → decode score ≡ decode_before score
-
-pub record PlaysBefore (score : List ℕ) : Type 0 where
-  pub instants : (first last : List ℕ) (calls : List Call) (answered : List Answered) →
-      InTurn score first calls last → Answers score calls answered →
-      (p : Answered) → Memᴰ p answered → ByTheRules (decode_before score) p
-  pub runs : (inputs : List ℕ) (before after : Lent) (answer : ℕ) →
-      before.state ≡ start_bytes (decode_before score) → ScoreRun score inputs before after answer →
-      after.journal
-      ≡ bytes_of (history_before score inputs (written answer))
-      ++ drop (4 * length (history_before score inputs (written answer))) before.journal
-  pub checks : (journal before after : List ℕ) (answer n : ℕ) → length before ≡ scratch_bytes →
-      ScoreJournalCheck score journal before after answer →
-      ((number_in answer ≡ 0) × (value_in answer ≡ n)
-      → IsHistory (decode_before score) (start_state (decode_before score)) journal n × (n ≤ last_number))
-      × (IsHistory (decode_before score) (start_state (decode_before score)) journal n → n ≤ last_number
-      → (number_in answer ≡ 0) × (value_in answer ≡ n))
+  pub checks : (a : ℕ) → CheckCall score a → a ≡ packed (of_verdict (verdict_before score))
+  pub instants : (input : List ℕ) (l m : Lent) (a : ℕ) → ScoreInstant score input l m a →
+      (m ≡ (instant_before score input l).lent) × (a ≡ packed (of_reply (instant_before score input l).reply))
+  pub runs : (inputs : List ℕ) (l m : run.Lent) (a : ℕ) → ScoreRun score inputs l m a →
+      (m ≡ (run_before score inputs l).lent) × (a ≡ packed (of_run_reply (run_before score inputs l).reply))
+  pub journals : (journal l m : List ℕ) (a : ℕ) → ScoreJournalCheck score journal l m a →
+      (m ≡ (check_before score journal l).scratch) × (a ≡ packed (of_run_reply (check_before score journal l).reply))
 
 abbrev pub WithoutFacts : Type 0
-WithoutFacts =
-    ((w : ℕ) → field w 27 1 ≡ 0 → WordBefore w)
-    × ((score : List ℕ) → NoFact score → ReadBefore score)
-    × ByReading
-    × ((score : List ℕ) → NoFact score → verdict_number (verdict_before score) ≡ 0 → PlaysBefore score)
+WithoutFacts = ((w : ℕ) → field w 27 1 ≡ 0 → WordBefore w) × ((score : List ℕ) → NoFact score → CallsBefore score)

@@ -3,20 +3,19 @@
 --     stays            so, from any, they change its number alone
 --     aborted_stays    the theorem
 use mathlib.Core.Path.{◌≡◌, refl, sym, ap, subst⁻¹, ◌∙◌}
-use mathlib.Core.List.{List, [], ◌∷◌}
+use mathlib.Core.List.{List}
 use Prim.Native.Nat.{ℕ, suc}
 use lib.ListN.{length}
 use Rattle.tcc.specs.Instant.{aborted}
 use Rattle.format.specs.Decode.{sizes}
-use Rattle.lent.specs.States.{state_fault, state_of, instant_number, numbered, SameButNumber}
-use Rattle.lent.specs.Lawful.{LawfulState}
+use Rattle.lent.specs.States.{state_fault, state_of, instant_number, numbered, LawfulState, SameButNumber}
 use Rattle.lent.proofs.Numbered.{numbered_round}
 use Rattle.lent.proofs.SameState.{state_aborted}
 use Rattle.score.specs.Slice.{Slice}
 use Rattle.claims_demands.specs.Calls.{Answered}
 use Rattle.claims_demands.proofs.Linked.{Linked, none, then}
 use Rattle.claims_demands.proofs.Ends.{from_aborted}
-use Rattle.claims_demands.proofs.Calls.{linked, calls_answer, none_made, first_lent}
+use Rattle.claims_demands.proofs.Calls.{linked, calls_answer}
 use Rattle.claims_numbers.specs.AbortedStays.{AbortedStays}
 use Rattle.claims_numbers.proofs.Words.{aborted_words}
 
@@ -36,5 +35,4 @@ module _ {score : List ℕ} where
       subst⁻¹ (SameButNumber s) q.1 (aborted_words s lent (sym (ap length at) ∙ is.long) (sizes score).agents (sym (ap (state_fault (sizes score).agents) at) ∙ is.faultless) e q.0)
 
 pub aborted_stays : AbortedStays
-aborted_stays score first last [] e turn = subst⁻¹ (SameButNumber first) (none_made turn) (record { long = refl; words = λ i h. refl })
-aborted_stays score first last (call ∷ made) e turn = let a = calls_answer turn in stays (first_lent turn) e (linked turn a.1)
+aborted_stays score first last calls lent e turn = let a = calls_answer turn in stays lent e (linked turn a.1)

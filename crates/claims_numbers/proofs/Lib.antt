@@ -2,4 +2,3 @@ pub mod Words
 pub mod NumberCounts
 pub mod NumberAside
 pub mod AbortedStays
-pub mod CheckedThere

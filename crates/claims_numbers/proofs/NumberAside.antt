@@ -2,23 +2,36 @@
 --     alike_exits      of instant calls; alike_runs, of runs
 --     number_aside     the theorem
 use mathlib.Core.Path.{◌≡◌, refl, sym, ap, ap₂, subst⁻¹, ◌∙◌}
+use mathlib.Core.Bool.{Bool, true, false, cond, not, ◌||◌}
 use mathlib.Core.List.{List, ◌++◌}
 use Prim.Native.Nat.{ℕ, suc, ◌+◌, ◌*◌, ◌<◌, ◌≤◌}
 use borrow.Author.Tests.{ne_eqb}
 use native.Mathlib.Omega.{arith}
+use lib.Dec.{eqb}
 use lib.ListN.{length, drop}
-use Rattle.tcc.specs.Instant.{after}
-use Rattle.format.specs.Decode.{sizes}
+use Rattle.tcc.specs.Instant.{State, answer, after}
+use Rattle.format.specs.Decode.{sizes, decode}
+use Rattle.check_verdicts.specs.Verdicts.{verdict_number}
+use Rattle.check_score.specs.Check.{verdict}
 use Rattle.bits.specs.Bits.{bytes_of}
-use Rattle.lent.specs.States.{instant_number, last_number, SameButNumber}
+use Rattle.lent.specs.Lengths.{state_bytes, map_bytes, scratch_bytes, no_scratch}
+use Rattle.lent.specs.States.{state_fault, state_of, as_bytes, instant_number, last_number, at_last, SameButNumber}
 use Rattle.lent.proofs.Numbered.{state_aside, fault_aside, numbered_alike}
-use Rattle.instant_call.specs.InstantCall.{lent, Exit, exit}
-use Rattle.instant_call.proofs.SameTests.{SameTests, by_tests}
+use Rattle.lent_maps.specs.Maps.{tokens_in}
+use Rattle.instant_call.specs.declared.Reply.{Reply}
+use Rattle.instant_call.specs.declared.Reply.TheVariants.{Score as Turned, Lengths, State as BadState, Input, Last, Next}
+use Rattle.instant_call.specs.InstantCall.{lent, Exit, token_fault, kept, cleared, answered, exit}
+use Rattle.journal_form.specs.declared.Form.{Form}
+use Rattle.journal_form.specs.declared.Form.TheVariants.{Good, Bytes, Word}
+use Rattle.journal_form.specs.Form.{form_of}
 use Rattle.journal_instants.specs.Instants.{input_lists}
+use Rattle.journal_step.specs.declared.Reply.{Reply as RunReply}
+use Rattle.journal_step.specs.declared.Reply.TheVariants as reply
+use Rattle.journal_step.specs.ByForm.{by_form}
+use Rattle.journal_run_list.specs.Run.{run_from}
 use Rattle.journal_run_list.proofs.Aside as runlist
 use Rattle.journal_run.specs.RunCall.{ending}
 use Rattle.journal_run.specs.RunCall as run
-use Rattle.journal_run.proofs.SameTests as run-tests
 use Rattle.journal_check.proofs.Aside.{check_aside}
 use Rattle.settings_call.specs.SettingsCall as settings-call
 use Rattle.score_answer.specs.Answer.{packed}
@@ -34,21 +47,50 @@ record AlikeExits (e f : Exit) : Type 0 where
   outputs : e.lent.output ≡ f.lent.output
   scratches : e.lent.scratch ≡ f.lent.scratch
 
-module _ (score input store output scratch s t : List ℕ) (same : SameButNumber s t) (below : instant_number s < last_number) (below' : instant_number t < last_number) where
-  -- they differ in the number alone, and neither is at the last
-  looks : SameTests score input (lent s store output scratch) (lent t store output scratch)
-  looks = record {
-    lengths = rw same.long;
-    faults = fault_aside s t same.words (sizes score).agents;
-    last = ne_eqb (instant_number s) last_number (λ e. omega arith) ∙ sym (ne_eqb (instant_number t) last_number (λ e. omega arith));
-    stands = state_aside s t same.words;
-  }
+-- by one test
+both : (b : Bool) {x y x' y' : Exit} → AlikeExits x x' → AlikeExits y y' → AlikeExits (cond b x y) (cond b x' y')
+both true p q = p
+both false p q = q
 
-  alike_exits : AlikeExits (exit score input (lent s store output scratch)) (exit score input (lent t store output scratch))
-  alike_exits = by_tests AlikeExits score input (lent s store output scratch) (lent t store output scratch) looks
-      (λ r. record { replies = refl; states = same; stores = refl; outputs = refl; scratches = refl })
-      (λ r. record { replies = refl; states = same; stores = refl; outputs = refl; scratches = refl })
-      (λ a. record { replies = refl; states = numbered_alike (after a) (suc (instant_number s)) (suc (instant_number t)); stores = refl; outputs = refl; scratches = refl })
+module _ (score input store output scratch : List ℕ) where
+  -- the call by what it looks at: the length, the fault, the state and the number
+  abbrev exit_by : ℕ → Bool → State → Bool → List ℕ → Exit
+  exit_by n fault st last s =
+      let l = lent s store output scratch in
+      let a = answer (decode score) st (tokens_in input) in
+      cond (not (eqb (verdict_number (verdict score)) 0)) (kept l (Turned (verdict score)))
+      (cond (not (eqb n state_bytes) || not (eqb (length input) map_bytes) || not (eqb (length store) map_bytes) || not (eqb (length output) map_bytes) || not (eqb (length scratch) scratch_bytes)) (kept l Lengths)
+      (cond fault (kept l BadState)
+      (cond (token_fault score input) (kept l Input)
+      (cond last (kept l Last)
+      (cond (state_fault (sizes score).agents (as_bytes (after a))) (cleared l Next) (answered (decode score) s a))))))
+
+  module _ (s t : List ℕ) (same : SameButNumber s t) (below : instant_number s < last_number) (below' : instant_number t < last_number) where
+    looked : exit score input (lent t store output scratch) ≡ exit_by (length s) (state_fault (sizes score).agents s) (state_of s) (at_last s) t
+    unfolding exit
+    looked =
+        let early : at_last s ≡ at_last t = ne_eqb (instant_number s) last_number (λ e. omega arith) ∙ sym (ne_eqb (instant_number t) last_number (λ e. omega arith)) in
+        ap₂ (λ n f. exit_by n f (state_of t) (at_last t) t) (sym same.long) (sym (fault_aside s t same.words (sizes score).agents))
+        ∙ ap₂ (λ st b. exit_by (length s) (state_fault (sizes score).agents s) st b t) (sym (state_aside s t same.words)) (sym early)
+
+    -- a refusal leaves the state
+    stays : (scratch' : List ℕ) (r : Reply) → AlikeExits (kept (lent s store output scratch') r) (kept (lent t store output scratch') r)
+    stays scratch' r = record { replies = refl; states = same; stores = refl; outputs = refl; scratches = refl }
+
+    by_tests : (n : ℕ) (fault last : Bool) (st : State) → AlikeExits (exit_by n fault st last s) (exit_by n fault st last t)
+    by_tests n fault last st =
+        let a = answer (decode score) st (tokens_in input) in
+        both (not (eqb (verdict_number (verdict score)) 0)) (stays scratch (Turned (verdict score)))
+        (both (not (eqb n state_bytes) || not (eqb (length input) map_bytes) || not (eqb (length store) map_bytes) || not (eqb (length output) map_bytes) || not (eqb (length scratch) scratch_bytes)) (stays scratch Lengths)
+        (both fault (stays scratch BadState)
+        (both (token_fault score input) (stays scratch Input)
+        (both last (stays scratch Last)
+        (both (state_fault (sizes score).agents (as_bytes (after a))) (stays no_scratch Next)
+        (record { replies = refl; states = numbered_alike (after a) (suc (instant_number s)) (suc (instant_number t)); stores = refl; outputs = refl; scratches = refl }))))))
+
+    alike_exits : AlikeExits (exit score input (lent s store output scratch)) (exit score input (lent t store output scratch))
+    unfolding exit
+    alike_exits = rw looked (by_tests (length s) (state_fault (sizes score).agents s) (at_last s) (state_of s))
 
 instants : Instants
 instants score input s t store output scratch after₁ after₂ a b same below below' c d =
@@ -68,19 +110,49 @@ record AlikeRuns (e f : run.Exit) : Type 0 where
   journals : e.lent.journal ≡ f.lent.journal
   scratches : e.lent.scratch ≡ f.lent.scratch
 
-module _ (score inputs journal scratch s t : List ℕ) (same : SameButNumber s t)
-    (few : instant_number s + length (input_lists inputs) ≤ last_number) (few' : instant_number t + length (input_lists inputs) ≤ last_number) where
-  alike_runs : AlikeRuns (run.exit score inputs (run.lent s journal scratch)) (run.exit score inputs (run.lent t journal scratch))
-  alike_runs =
-      let x = runlist.run_aside score (input_lists inputs) s t same (length journal) few few' in
-      run-tests.by_tests AlikeRuns score inputs (run.lent s journal scratch) (run.lent t journal scratch) (rw same.long) (fault_aside s t same.words (sizes score).agents)
-      (λ r. record { replies = refl; states = same; journals = refl; scratches = refl })
-      (record {
-        replies = ap₂ ending x.stop x.instants;
-        states = x.state;
-        journals = ap (λ ws. bytes_of ws ++ drop (4 * length ws) journal) x.words;
-        scratches = refl;
-      })
+both_runs : (b : Bool) {x y x' y' : run.Exit} → AlikeRuns x x' → AlikeRuns y y' → AlikeRuns (cond b x y) (cond b x' y')
+both_runs true p q = p
+both_runs false p q = q
+
+module _ (score inputs journal scratch : List ℕ) where
+  -- the run by what it looks at first: the length and the fault
+  abbrev run_by : ℕ → Bool → List ℕ → run.Exit
+  run_by n fault s =
+      let l = run.lent s journal scratch in
+      cond (not (eqb (verdict_number (verdict score)) 0)) (run.kept l (reply.Score (verdict score)))
+      (cond (not (eqb n state_bytes) || not (eqb (length scratch) scratch_bytes)) (run.kept l reply.Lengths)
+      (cond fault (run.kept l reply.State)
+      (by_form (form_of false (sizes score).tokens inputs) (run.kept l) (run.ended l (run_from score s (length journal) (input_lists inputs))))))
+
+  module _ (s t : List ℕ) (same : SameButNumber s t) (few : instant_number s + length (input_lists inputs) ≤ last_number) (few' : instant_number t + length (input_lists inputs) ≤ last_number) where
+    stays_run : (r : RunReply) → AlikeRuns (run.kept (run.lent s journal scratch) r) (run.kept (run.lent t journal scratch) r)
+    stays_run r = record { replies = refl; states = same; journals = refl; scratches = refl }
+
+    ends : AlikeRuns (run.ended (run.lent s journal scratch) (run_from score s (length journal) (input_lists inputs))) (run.ended (run.lent t journal scratch) (run_from score t (length journal) (input_lists inputs)))
+    ends =
+        let x = runlist.run_aside score (input_lists inputs) s t same (length journal) few few' in
+        record {
+          replies = ap₂ ending x.stop x.instants;
+          states = x.state;
+          journals = ap (λ ws. bytes_of ws ++ drop (4 * length ws) journal) x.words;
+          scratches = refl;
+        }
+
+    by_form_lem : (f : Form) → AlikeRuns (by_form f (run.kept (run.lent s journal scratch)) (run.ended (run.lent s journal scratch) (run_from score s (length journal) (input_lists inputs))))
+        (by_form f (run.kept (run.lent t journal scratch)) (run.ended (run.lent t journal scratch) (run_from score t (length journal) (input_lists inputs))))
+    by_form_lem Good = ends
+    by_form_lem Bytes = stays_run reply.Bytes
+    by_form_lem (Word k) = stays_run (reply.Word k)
+
+    alike_runs : AlikeRuns (run.exit score inputs (run.lent s journal scratch)) (run.exit score inputs (run.lent t journal scratch))
+    unfolding run.exit
+    alike_runs = rw looked_run
+        (both_runs (not (eqb (verdict_number (verdict score)) 0)) (stays_run (reply.Score (verdict score)))
+        (both_runs (not (eqb (length s) state_bytes) || not (eqb (length scratch) scratch_bytes)) (stays_run reply.Lengths)
+        (both_runs (state_fault (sizes score).agents s) (stays_run reply.State) (by_form_lem (form_of false (sizes score).tokens inputs)))))
+      where
+        looked_run : run.exit score inputs (run.lent t journal scratch) ≡ run_by (length s) (state_fault (sizes score).agents s) t
+        looked_run = ap₂ (λ n f. run_by n f t) (sym same.long) (sym (fault_aside s t same.words (sizes score).agents))
 
 runs : Runs
 runs score inputs s t journal scratch after₁ after₂ a b same few few' c d =

@@ -4,12 +4,12 @@
 --     advances, cue_numbers, journal_number, stopped_there, number_counts     the theorem and its parts
 use mathlib.Core.Path.{◌≡◌, refl, sym, ap, ◌∙◌}
 use mathlib.Core.Bool.{not}
-use mathlib.Core.List.{List, [], ◌∷◌, ◌++◌}
+use mathlib.Core.List.{List}
 use Prim.Native.Nat.{ℕ, suc, ◌+◌, ◌<◌, ◌≤◌}
 use borrow.Author.Tests.{eqb-true, eqb-false}
 use native.Mathlib.Omega.{arith}
 use lib.Dec.{eqb}
-use lib.ListN.{length, length-append}
+use lib.ListN.{length}
 use Rattle.laws.proofs.Booleans.{by_test}
 use Rattle.tcc.specs.Instant.{start_state, after}
 use Rattle.format.specs.Decode.{sizes, decode}
@@ -30,15 +30,15 @@ use Rattle.journal_run.specs.RunCall as run
 use Rattle.score_answer.specs.Answer.{number_of, value_of, number_in, value_in}
 use Rattle.score_answer.specs.Replies.{of_reply, of_run_reply}
 use Rattle.score_answer.proofs.Replies.{reply_number}
+use Rattle.score.specs.Slice.{Slice}
 use Rattle.score.specs.ScoreRun.{ScoreRun}
 use Rattle.score.proofs.ScoreInstant as score-instant
 use Rattle.score.proofs.ScoreRun as score-run
-use Rattle.claims_demands.specs.Calls.{Answered, Answers, written}
-use Rattle.claims_demands.specs.Calls as calls
+use Rattle.claims_demands.specs.Calls.{Answered, written}
 use Rattle.claims_demands.proofs.Accepted.{given}
 use Rattle.claims_demands.proofs.Instants.{IsInstant}
 use Rattle.claims_demands.proofs.Linked.{Linked, none, then, linked_split}
-use Rattle.claims_demands.proofs.Calls.{linked, none_made, first_lent}
+use Rattle.claims_demands.proofs.Calls.{linked}
 use Rattle.claims_demands.proofs.RunExit.{ran_on, Outcome, refuses, runs, outcome}
 use Rattle.claims_demands.proofs.Runs.{Ended, refused, ran, run_ended}
 use Rattle.claims_demands.proofs.JournalExact.{runs_accepted}
@@ -59,18 +59,11 @@ module _ {score : List ℕ} where
       let rest = linked_number x (omega (arith, next.0, next.1)) in
       (omega (arith, next.0, rest.0), rest.1)
 
-  -- no call, no answer
-  none_answered : {l : List Answered} → Answers score [] l → length l ≡ 0
-  none_answered calls.Answers.none = refl
-
 advances : Advances
-advances score first last [] answered turn answers = (omega (arith, ap instant_number (none_made turn), none_answered answers), λ h. absurd (omega arith))
-advances score first last (call ∷ made) answered turn answers =
-    let n = linked_number (linked turn answers) (number_few first (first_lent turn)) in (n.0, λ h. n.1)
+advances score first last calls answered lent turn answers = linked_number (linked turn answers) (number_few first lent)
 
 cue_numbers : CueNumbers
-cue_numbers score first last [] earlier later p turn answers = absurd (omega (arith, length-append earlier (p ∷ later), none_answered answers))
-cue_numbers score first last (call ∷ made) earlier later p turn answers = (linked_number (linked_split earlier later p (linked turn answers)).1 (number_few first (first_lent turn))).0
+cue_numbers score first last calls earlier later p lent turn answers = (linked_number (linked_split earlier later p (linked turn answers)).1 (number_few first lent)).0
 
 journal_number : JournalNumber
 journal_number score inputs before after answer at c = (
@@ -120,12 +113,12 @@ stop_full n Last e = absurd (omega arith)
 stop_full n Room e = refl
 
 -- a run's answer that is 18 or 15
-module _ (score inputs : List ℕ) (before after : run.Lent) (answer : ℕ) (c : ScoreRun score inputs before after answer) where
+module _ (score inputs : List ℕ) (before after : run.Lent) (answer : ℕ) (lent : Slice before.state) (c : ScoreRun score inputs before after answer) where
   abbrev whole : Ran
   whole = ran_on score inputs before
 
   reaches : Reaches (instant_number before.state) whole
-  reaches = run_number score (input_lists inputs) before.state (length before.journal) (number_few before.state c.lent.1.1.0)
+  reaches = run_number score (input_lists inputs) before.state (length before.journal) (number_few before.state lent)
 
   number_is : {e : run.Exit} {n : ℕ} → run.exit score inputs before ≡ e → number_in answer ≡ n → number_of (of_run_reply e.reply) ≡ n
   number_is q n = sym ((score-run.read score inputs before after answer c).number ∙ ap (λ x. number_of (of_run_reply x.reply)) q) ∙ n
@@ -149,9 +142,9 @@ module _ (score inputs : List ℕ) (before after : run.Lent) (answer : ℕ) (c :
 stopped_there : StoppedThere
 stopped_there = (
   λ score input before after answer c n. (there score input before).at_last_lem (sym (score-instant.read score input before after answer c).number ∙ n),
-  λ score inputs before after answer c.
+  λ score inputs before after answer lent c.
       let e = run.exit score inputs before in
-      (at_last_lem score inputs before after answer c e refl (outcome score inputs before), before_last score inputs before after answer c e refl (outcome score inputs before)),
+      (at_last_lem score inputs before after answer lent c e refl (outcome score inputs before), before_last score inputs before after answer lent c e refl (outcome score inputs before)),
 )
 
 pub number_counts : NumberCounts

@@ -1,4 +1,3 @@
 pub mod NumberCounts
 pub mod NumberAside
 pub mod AbortedStays
-pub mod CheckedThere

@@ -2,7 +2,6 @@ pub mod Counts
 pub mod AddUp
 pub mod AnyOrder
 pub mod Tried
-pub mod EachTried
 pub mod CountedByCalls
 pub mod NoneAborts
 pub mod Harmless

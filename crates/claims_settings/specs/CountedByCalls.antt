@@ -12,5 +12,4 @@ abbrev pub CountedByCalls : Type 0
 CountedByCalls =
     (score state switches : List ℕ) (k answer : ℕ) → ScoreSettings score state switches k answer → number_in answer ≡ 0 →
     (ends : List ℕ → ℕ) → ((set : List ℕ) → Memᴰ set (settings k switches) → Tried score state set (ends set)) →
-    (status : ℕ) → status ≤ 2 →
-    settings_in answer status ≡ length (keep (λ set. eqb (ends set) status) (settings k switches))
+    (status : ℕ) → status ≤ 2 → settings_in answer status ≡ length (keep (λ set. eqb (ends set) status) (settings k switches))

@@ -11,5 +11,4 @@ abbrev pub Harmless : Type 0
 Harmless =
     (score state switches : List ℕ) (k answer : ℕ) → ScoreSettings score state switches k answer → number_in answer ≡ 0 →
     settings_in answer 0 ≡ choose (length switches) k →
-    (set : List ℕ) → Setting k switches set → (status : ℕ) (t : Tried score state set status) →
-    (number_in t.answer ≡ 0) × (status ≡ 0)
+    (set : List ℕ) → Setting k switches set → (status : ℕ) (t : Tried score state set status) → (number_in t.answer ≡ 0) × (status ≡ 0)

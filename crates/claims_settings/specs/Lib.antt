@@ -1,5 +1,4 @@
 pub mod Tried
-pub mod EachTried
 pub mod AddUp
 pub mod AnyOrder
 pub mod CountedByCalls

@@ -1,5 +1,5 @@
--- For a rigger: if the count of 2 is 0 for k, no setting of k switches aborts, on any console that meets the contracts,
--- and in no order of reductions.
+-- For a rigger: "if the count of 2 is 0 for k, no setting of k switches aborts", on any console that meets the contracts, and in
+-- no order of reductions.
 --     NoCallAborts      the instant call is accepted, and does not end with status 2
 --     NoOrderAborts     nor does an order from any number of copies of the agents awake
 --     NoneAborts        both
@@ -16,18 +16,14 @@ use Rattle.claims_settings.specs.Tried.{Tried}
 
 abbrev pub NoCallAborts : Type 0
 NoCallAborts =
-    (score state switches : List ℕ) (k answer : ℕ) → ScoreSettings score state switches k answer → number_in answer ≡ 0 →
-    settings_in answer 2 ≡ 0 →
-    (set : List ℕ) → Setting k switches set → (status : ℕ) (t : Tried score state set status) →
-    (number_in t.answer ≡ 0) × (status ≡ 2 → ⊥)
+    (score state switches : List ℕ) (k answer : ℕ) → ScoreSettings score state switches k answer → number_in answer ≡ 0 → settings_in answer 2 ≡ 0 →
+    (set : List ℕ) → Setting k switches set → (status : ℕ) (t : Tried score state set status) → (number_in t.answer ≡ 0) × (status ≡ 2 → ⊥)
 
 abbrev pub NoOrderAborts : Type 0
 NoOrderAborts =
-    (score state switches : List ℕ) (k answer : ℕ) → ScoreSettings score state switches k answer → number_in answer ≡ 0 →
-    settings_in answer 2 ≡ 0 →
+    (score state switches : List ℕ) (k answer : ℕ) → ScoreSettings score state switches k answer → number_in answer ≡ 0 → settings_in answer 2 ≡ 0 →
     (set : List ℕ) → Setting k switches set →
-    (copies s : List ℕ) (steps : List Item) → Same copies (agents_in state) → Closes (decode score) [] s →
-    Order (decode score) (start copies set) s steps aborted → ⊥
+    (copies s : List ℕ) (steps : List Item) → Same copies (agents_in state) → Closes (decode score) [] s → Order (decode score) (start copies set) s steps aborted → ⊥
 
 abbrev pub NoneAborts : Type 0
 NoneAborts = NoCallAborts × NoOrderAborts

@@ -8,6 +8,5 @@ use Rattle.claims_settings.specs.Tried.{Tried}
 
 abbrev pub SomeSetting : Type 0
 SomeSetting =
-    (score state switches : List ℕ) (k answer status : ℕ) → ScoreSettings score state switches k answer →
-    0 < settings_in answer status →
+    (score state switches : List ℕ) (k answer status : ℕ) → ScoreSettings score state switches k answer → 0 < settings_in answer status →
     (set : List ℕ) × Setting k switches set × ((ends : ℕ) → Tried score state set ends → ends ≡ status)

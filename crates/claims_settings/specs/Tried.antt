@@ -1,6 +1,6 @@
 -- A setting tried by the instant call.
---     Tried      a call, with buffers of the right lengths, from a state, its number aside, with exactly a setting's
---                tokens as input: it ends with a status. At the last number there is no such call.
+--     Tried      a call, with buffers of the right lengths, from a state, its number aside, with exactly a setting's tokens as
+--                input: it ends with a status. At the last number there is no such call.
 use Rattle.std.specs.Prelude.{◌≡◌, false, List, ℕ, ◌<◌}
 use Rattle.laws.specs.Sets.{Same}
 use Rattle.lent.specs.States.{instant_number, last_number, SameButNumber}

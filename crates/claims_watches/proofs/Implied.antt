@@ -38,7 +38,7 @@ refusal_keeps draft before after answer c n = go (ended c)
   where
     go : Ended draft before after answer → after ≡ before
     go (refused not-zero not-sixteen fault kept) = kept
-    go (over accepted long unfit number kept) = kept
+    go (over unfit number kept) = kept
     go (wrote w) = absurd (n w.number)
 
 module _ (draft before after : List ℕ) (answer : ℕ) (t : Translated draft before after answer) where

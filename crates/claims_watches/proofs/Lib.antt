@@ -3,6 +3,4 @@ pub mod TranslationExact
 pub mod Returned
 pub mod Sixteen
 pub mod NeverStopped
-pub mod CopiesOnPaths
-pub mod StoppedCopies
 pub mod Implied

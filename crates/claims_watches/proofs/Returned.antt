@@ -30,7 +30,7 @@ lawful_fits sc law =
 pub returned : Returned
 returned score before after answer accepted on long c =
     let d = decode_draft score in
-    let bytes = bytes_below score c.lent.0 in
+    let bytes = bytes_below score c.lent in
     let plain = plain_draft score bytes accepted in
     let law = accepted_lawful_draft score bytes plain.accepted in
     let same : plain_of d ≡ whens d = unchanged d law plain.no_watch on in
@@ -39,5 +39,5 @@ returned score before after answer accepted on long c =
     go : draft_verdict score ≡ Accepted → fits (plain_of (decode_draft score)) ≡ true → score_bytes (plain_of (decode_draft score)) ≡ score → Ended score before after answer →
         (number_in answer ≡ 0) × (value_in answer ≡ length score) × (after ≡ score ++ drop (length score) before)
     go draft fit is (refused not-zero not-sixteen fault kept) = absurd (fault draft long)
-    go draft fit is (over accepted long unfit number kept) = absurd (true_is_false fit unfit)
+    go draft fit is (over unfit number kept) = absurd (true_is_false fit unfit)
     go draft fit is (wrote w) = (w.number, w.value ∙ ap length is, w.plain ∙ ap (λ s. s ++ drop (length s) before) is)

@@ -2,31 +2,24 @@
 --     shows                the draft's chains show the plain score's history, and there is one
 --     runs                 so a run of the plain score writes the draft's journal
 --     checks               and the draft's journals are accepted for the plain score
---     accepts              and no others over the draft's tokens
 --     translation_exact    the theorem
-use mathlib.Core.Path.{◌≡◌, refl, sym, ap, subst, subst⁻¹, ◌∙◌}
+use mathlib.Core.Path.{refl, sym, ap, ◌∙◌}
 use mathlib.Core.List.{List, ◌++◌}
 use Prim.Native.Nat.{ℕ, ◌*◌, ◌≤◌}
 use native.Mathlib.Omega.{arith}
 use lib.ListN.{length, take, drop}
-use Rattle.tcc.specs.Instant.{start_state}
 use Rattle.format.specs.Decode.{decode}
 use Rattle.check_verdicts.specs.Verdicts.{verdict_number}
 use Rattle.bits.specs.Bits.{bytes_of}
 use Rattle.journal_instants.specs.Instants.{input_lists}
-use Rattle.journal_words.specs.History.{history}
 use Rattle.journal_words.proofs.Rising.{rising_within}
-use Rattle.journal_words.proofs.Histories.{history_inputs}
-use Rattle.draft_language.specs.Chain.{InputsKnown, Journal}
 use Rattle.draft_plain.proofs.Carrying.{plain_carries}
 use Rattle.draft_plain.proofs.Exact.{exact}
 use Rattle.draft_format.specs.DraftFile.{decode_draft}
-use Rattle.score_answer.specs.Answer.{value_in}
 use Rattle.claims_demands.specs.Calls.{written}
-use Rattle.claims_demands.proofs.Accepted.{lawful}
 use Rattle.claims_demands.proofs.JournalExact.{exactly, runs_accepted}
 use Rattle.claims_watches.specs.Translations.{plain_in, Translated}
-use Rattle.claims_watches.specs.TranslationExact.{ShowsTheDraft, RunsAsTheDraft, ChecksAsTheDraft, AcceptsNoOther, TranslationExact}
+use Rattle.claims_watches.specs.TranslationExact.{ShowsTheDraft, RunsAsTheDraft, ChecksAsTheDraft, TranslationExact}
 use Rattle.claims_watches.proofs.Translations.{translated_wrote, draft_lawful, plain_accepted, plain_decoded, taken_known}
 
 module _ {draft before after : List ℕ} {answer : ℕ} (t : Translated draft before after answer) where
@@ -52,15 +45,5 @@ module _ {draft before after : List ℕ} {answer : ℕ} (t : Translated draft be
       })
       few
 
-  accepts : AcceptsNoOther draft (plain_in after answer)
-  accepts journal scratch left checked long c zero known =
-      let d = decode_draft draft in
-      let plain = decode (plain_in after answer) in
-      let stands = ap verdict_number (plain_accepted t) in
-      let h = ((exactly (plain_in after answer) journal scratch left checked (value_in checked) stands long c).0 (zero, refl)).0 in
-      let inputs : input_lists journal ≡ h.inputs = ap input_lists h.is ∙ history_inputs plain (lawful (plain_in after answer) stands) (start_state plain) h.inputs h.rising in
-      let words = history plain (start_state plain) h.inputs in
-      (words, h.is, subst⁻¹ (λ l. Journal d l words) inputs (shows h.inputs (subst (InputsKnown d.tokens) inputs known)).1, ap length inputs ∙ h.instants)
-
 pub translation_exact : TranslationExact
-translation_exact draft before after answer t = (plain_accepted t, shows t, runs t, checks t, accepts t)
+translation_exact draft before after answer t = (plain_accepted t, shows t, runs t, checks t)

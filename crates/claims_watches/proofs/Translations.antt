@@ -45,7 +45,7 @@ pub record Wrote (draft before after : List ℕ) (answer : ℕ) : Type 0 where
 
 pub data Ended (draft before after : List ℕ) (answer : ℕ) : Type 0 where
   refused : (number_in answer ≡ 0 → ⊥) → (number_in answer ≡ 16 → ⊥) → (draft_verdict draft ≡ Accepted → length before ≡ most_bytes → ⊥) → after ≡ before → Ended draft before after answer
-  over : draft_verdict draft ≡ Accepted → length before ≡ most_bytes → fits (plain_of (decode_draft draft)) ≡ false → number_in answer ≡ 16 → after ≡ before → Ended draft before after answer
+  over : fits (plain_of (decode_draft draft)) ≡ false → number_in answer ≡ 16 → after ≡ before → Ended draft before after answer
   wrote : Wrote draft before after answer → Ended draft before after answer
 
 module _ {draft before after : List ℕ} {answer : ℕ} (c : ScoreTranslate draft before after answer) where
@@ -67,7 +67,7 @@ module _ {draft before after : List ℕ} {answer : ℕ} (c : ScoreTranslate draf
           let is : number_in answer ≡ verdict_number v = number_is e q ∙ reply_number (verdict_number v) (verdict_value v) in
           refused (λ z. n (sym is ∙ z)) (λ z. omega (arith, number_few v)) (λ a l. n (ap verdict_number a)) (plain_left e q)
       go e q (lengths a n) = let is : number_in answer ≡ 8 = number_is e q in refused (λ z. omega arith) (λ z. omega arith) (λ b l. n l) (plain_left e q)
-      go e q (large a l f) = over a l f (number_is e q) (plain_left e q)
+      go e q (large a l f) = over f (number_is e q) (plain_left e q)
       go e q (writes a l f) = wrote (record { accepted = a; fit = f; number = number_is e q; value = value_is e q; plain = plain_left e q })
 
 module _ {draft before after : List ℕ} {answer : ℕ} (t : Translated draft before after answer) where
@@ -76,11 +76,11 @@ module _ {draft before after : List ℕ} {answer : ℕ} (t : Translated draft be
     where
       go : Ended draft before after answer → Wrote draft before after answer
       go (refused not-zero not-sixteen fault kept) = absurd (not-zero t.accepted)
-      go (over accepted long unfit number kept) = absurd (omega (arith, t.accepted))
+      go (over unfit number kept) = absurd (omega (arith, t.accepted))
       go (wrote w) = w
 
   pub draft_lawful : LawfulDraft (decode_draft draft)
-  draft_lawful = accepted_lawful_draft draft (bytes_below draft t.called.lent.0) translated_wrote.accepted
+  draft_lawful = accepted_lawful_draft draft (bytes_below draft t.called.lent) translated_wrote.accepted
 
   pub plain_is : plain_in after answer ≡ score_bytes (plain_of (decode_draft draft))
   plain_is =
@@ -88,7 +88,7 @@ module _ {draft before after : List ℕ} {answer : ℕ} (t : Translated draft be
       ap₂ take translated_wrote.value translated_wrote.plain ∙ take_at plain (drop (length plain) before) (length plain) refl
 
   plain_read : (verdict (score_bytes (plain_of (decode_draft draft))) ≡ Accepted) × (decode (score_bytes (plain_of (decode_draft draft))) ≡ plain_of (decode_draft draft))
-  plain_read = plain_written draft (bytes_below draft t.called.lent.0) translated_wrote.accepted translated_wrote.fit
+  plain_read = plain_written draft (bytes_below draft t.called.lent) translated_wrote.accepted translated_wrote.fit
 
   pub plain_accepted : verdict (plain_in after answer) ≡ Accepted
   plain_accepted = ap verdict plain_is ∙ plain_read.0

@@ -3,5 +3,3 @@ pub mod TranslationExact
 pub mod Returned
 pub mod Sixteen
 pub mod NeverStopped
-pub mod CopiesOnPaths
-pub mod StoppedCopies

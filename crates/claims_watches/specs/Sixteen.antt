@@ -1,6 +1,6 @@
--- 16 is answered exactly if the draft is accepted, the buffer has its length and one of the four counts passes its
--- limit: "16, the plain score passes a size limit, after 8; all buffers untouched".
---     Sixteen        at the contract of score_translate
+-- "16 is answered exactly if one of the four counts passes its limit."
+--     Sixteen        of an accepted draft and a buffer of the right length, at the contract of score_translate; and what is
+--                    answered 16 leaves the buffer as it was
 use Rattle.std.specs.Prelude.{◌≡◌, List, ℕ, length}
 use Rattle.format.specs.Limits.{most_bytes}
 use Rattle.check_verdicts.specs.declared.Verdict.TheVariants.{Accepted}
@@ -11,7 +11,5 @@ use Rattle.score.specs.ScoreTranslate.{ScoreTranslate}
 
 abbrev pub Sixteen : Type 0
 Sixteen =
-    (draft before after : List ℕ) (answer : ℕ) → ScoreTranslate draft before after answer →
-    (number_in answer ≡ 16 →
-    (draft_verdict draft ≡ Accepted) × (length before ≡ most_bytes) × Passes (decode_draft draft) × (after ≡ before))
-    × (draft_verdict draft ≡ Accepted → length before ≡ most_bytes → Passes (decode_draft draft) → number_in answer ≡ 16)
+    (draft before after : List ℕ) (answer : ℕ) → ScoreTranslate draft before after answer → draft_verdict draft ≡ Accepted → length before ≡ most_bytes →
+    (number_in answer ≡ 16 → Passes (decode_draft draft) × (after ≡ before)) × (Passes (decode_draft draft) → number_in answer ≡ 16)

@@ -19,8 +19,7 @@ use Rattle.draft_plain.specs.declared.Reply.{Reply}
 use Rattle.draft_plain.specs.declared.Reply.TheVariants.{Draft as Turned, Lengths, Large, Translated}
 use Rattle.encoding.specs.Encode.{score_bytes}
 use Rattle.draft_format.specs.DraftFile.{as_whens, draft_verdict, decode_draft}
-use Rattle.draft_call.specs.TranslateCall.{kept, exit, TranslateCall}
-use Rattle.draft_call.specs.Left.{LeftBy}
+use Rattle.draft_call.specs.TranslateCall.{kept, exit, LeftBy, TranslateCall}
 
 module _ (draft before : List ℕ) where
   pub turned : {v : Verdict} {n : ℕ} → n ≡ verdict_number v → v ≡ draft_verdict draft → (n ≡ 0 → ⊥) → kept before (Turned v) ≡ exit draft before

@@ -15,7 +15,6 @@ use lib.Dec.{eqb}
 use lib.ListN.{length, drop}
 use Rattle.laws.proofs.Booleans.{by_test}
 use Rattle.laws.proofs.Sets.{Within, on_map}
-use Rattle.tcc.specs.Score.{RuleFormed}
 use Rattle.words.specs.Word.{field, words}
 use Rattle.format.specs.Limits.{most_bytes}
 use Rattle.format.specs.Format.{is_fact, rule_of}
@@ -29,7 +28,7 @@ use Rattle.check_score.specs.Check.{verdict}
 use Rattle.draft_plain.specs.Plain.{plain_of, fits}
 use Rattle.draft_plain.specs.declared.Reply.TheVariants.{Draft as Turned, Lengths, Large}
 use Rattle.draft_plain.proofs.PlainLawful.{plain_lawful, plain_formed}
-use Rattle.encoding.specs.Encode.{score_bytes}
+use Rattle.encoding.specs.Encode.{RuleFormed, score_bytes}
 use Rattle.encoding.proofs.DecodesBack as encoding
 use Rattle.draft_format.specs.DraftFile.{draft_verdict, decode_draft}
 use Rattle.draft_format.proofs.Draft.{accepted_lawful_draft}

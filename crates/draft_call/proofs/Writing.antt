@@ -39,7 +39,7 @@ use Rattle.draft_gathering.specs.declared.Counts.{Counts}
 use Rattle.draft_gathering.specs.Gathered.{sets_in, Gathered}
 use Rattle.draft_rules.proofs.Rules.{gathered_rules}
 use Rattle.draft_rules.proofs.Asked.{sets_many}
-use Rattle.draft_words.proofs.Pairs.{copied_many, procedures_many}
+use Rattle.draft_words.proofs.Pairs.{agents_many, procedures_many}
 
 abbrev pub plain_in : List ℕ → Score
 plain_in s = plain_of (decode_draft s)
@@ -80,7 +80,7 @@ counted {s} g =
     record {
       lawful = plain_lawful d g.translatable.lawful g.fitting;
       tokens_are = omega (arith, g.tokens_are, sets_many g);
-      agents_are = copied_many g;
+      agents_are = agents_many g;
       roots_are = omega arith;
       copied_few = omega arith;
       rules_are = ruled.rules_are;

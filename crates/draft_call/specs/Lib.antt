@@ -1,2 +1,1 @@
 pub mod TranslateCall
-pub mod Left

@@ -1,9 +1,10 @@
 -- What a translation does with what it is lent: numbers 1 to 7 of the draft, 8, 16.
 --     Exit             what they hold afterwards, and the reply
 --     kept             a refusal: all as it was
---     written          "written to 5,384 lent bytes .., those past its length untouched": the bytes of a plain score
+--     written          the bytes of a plain score, "and bytes past it are as they were"
 --     translated       the plain score, or that it passes a size limit
 --     exit             the whole call
+--     LeftBy           what its last part leaves
 --     TranslateCall    its contract
 use Rattle.std.specs.Prelude.{◌≡◌, cond, not, List, ◌++◌, ℕ, eqb, length, drop}
 use Rattle.tcc.specs.Score.{Score}
@@ -24,8 +25,7 @@ abbrev pub kept : List ℕ → Reply → Exit
 kept plain r = record { plain = plain; reply = r }
 
 abbrev pub written : List ℕ → Score → Exit
-written plain sc =
-    record { plain = score_bytes sc ++ drop (length (score_bytes sc)) plain; reply = Translated (length (score_bytes sc)) }
+written plain sc = record { plain = score_bytes sc ++ drop (length (score_bytes sc)) plain; reply = Translated (length (score_bytes sc)) }
 
 abbrev pub translated : List ℕ → Draft → Exit
 translated plain d = cond (fits (plain_of d)) (written plain (plain_of d)) (kept plain Large)
@@ -35,6 +35,10 @@ exit draft plain =
     cond (not (eqb (verdict_number (draft_verdict draft)) 0)) (kept plain (Turned (draft_verdict draft)))
     (cond (not (eqb (length plain) most_bytes)) (kept plain Lengths)
     (translated plain (decode_draft draft)))
+
+-- what the translation of an accepted draft leaves in the buffer, and its reply
+pub record LeftBy (d : Draft) (before after : List ℕ) (reply : Reply) : Type 0 where
+  pub leaves : ◌≡◌ {A = Exit} (record { plain = after; reply = reply }) (translated before d)
 
 -- the call's contract: over the draft, the buffer before and after, and the reply
 pub record TranslateCall (draft before after : List ℕ) (reply : Reply) : Type 0 where

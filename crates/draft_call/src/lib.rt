@@ -6,8 +6,7 @@ ghost use Rattle.draft_plain.specs.Plain.{plain_of};
 ghost use Rattle.encoding.specs.Encode.{score_bytes};
 ghost use Rattle.draft_format.specs.DraftFile.{draft_verdict, decode_draft};
 ghost use Rattle.draft_gathering.specs.Gathered.{Gathered};
-ghost use Rattle.draft_call.specs.TranslateCall.{TranslateCall};
-ghost use Rattle.draft_call.specs.Left.{LeftBy};
+ghost use Rattle.draft_call.specs.TranslateCall.{TranslateCall, LeftBy};
 
 use draft_gathering::{Counts, Gathering};
 use draft_plain::Reply;

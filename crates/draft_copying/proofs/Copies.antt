@@ -14,8 +14,8 @@
 --     entered_over                   where there is no room for it, there are too many
 --     copied_there                   a pair that is there already is copied
 --     copied_all                     so is one that is entered, once all that it leads to is copied
---     large_misfit, over_misfit, overfull_misfit      a plain score with too many agents or procedures passes a limit, and so
---                                    one of a draft with too many pairs of agents or of procedures, or too many in all
+--     large_misfit, over_misfit      a plain score with too many agents or procedures passes a limit, and so one of a draft
+--                                    with too many pairs of agents or of procedures
 --     copied_places                  what the start leads to, copied, is all pairs of a draft
 use mathlib.Core.Path.{◌≡◌, refl, sym, ap, subst, subst⁻¹, ◌∙◌}
 use mathlib.Core.Bool.{Bool, true, false, ◌&&◌}
@@ -97,7 +97,6 @@ module _ {d : Draft} where
 pub record AllCopied (d : Draft) (pairs : List ℕ) (count : ℕ) (before : List (List ℕ)) (r : ℕ) (after : List (List ℕ)) : Type 0 where
   long : length after ≡ length before
   more : count ≤ r
-  most : r ≤ 1089
   room : r ≤ 1088 → Extended d pairs (keys count before) (keys r after)
   full : 1088 < r → Overfull d
 
@@ -107,7 +106,6 @@ module _ {d : Draft} where
       record {
         long = refl;
         more = omega arith;
-        most = omega (arith, ready.few);
         room = λ h. record { rising = ready.rising; led = ready.led; keeps = λ k m. m; has = λ k m. elim m [ ]; closes = λ k m. inl m };
         full = λ h. absurd (omega (arith, ready.few));
       }
@@ -117,7 +115,6 @@ module _ {d : Draft} where
       record {
         long = c.long;
         more = c.more;
-        most = c.most;
         room = λ h. let x = c.room h in record {
           rising = x.rising;
           led = x.led;
@@ -132,13 +129,12 @@ module _ {d : Draft} where
   all_then a b = record {
     long = b.long ∙ a.long;
     more = omega (arith, a.more, b.more);
-    most = b.most;
     room = λ h. extended_then (a.room (omega (arith, b.more))) (b.room h);
     full = b.full;
   }
 
   pub all_over : {ms ns : List ℕ} {count r : ℕ} {before after : List (List ℕ)} → 1088 < r → AllCopied d ms count before r after → AllCopied d ns count before r after
-  all_over h a = record { long = a.long; more = a.more; most = a.most; room = λ g. absurd (omega arith); full = a.full }
+  all_over h a = record { long = a.long; more = a.more; room = λ g. absurd (omega arith); full = a.full }
 
   pub copied_ready : {key count r : ℕ} {before after : List (List ℕ)} → Ready d count before → CopiedTo d key count before r after → r ≤ 1088 → Ready d r after
   copied_ready ready c h = record { long = c.long ∙ ready.long; few = h; rising = (c.room h).rising; led = (c.room h).led }
@@ -182,14 +178,12 @@ module _ {d : Draft} {key row count r : ℕ} {before after : List (List ℕ)} (g
   pub entered_led : Within (Led d) (leads_to d row)
   entered_led m x = on (subst⁻¹ (Led d) g.is g.led) x
 
-  -- `said` is the number that tells of it
-  pub entered_over : {said : ℕ} → 1088 < r → said ≡ 1089 → CopiedTo d key count before said after
-  entered_over h is_said =
+  pub entered_over : 1088 < r → CopiedTo d key count before r after
+  entered_over h =
       let (all, new) = entered.full h in
       record {
         long = entered.long;
         more = omega arith;
-        most = omega arith;
         room = λ le. absurd (omega arith);
         full = λ lt. record {
           pairs = insert key old;
@@ -207,7 +201,6 @@ module _ {d : Draft} {key row count r : ℕ} {before after : List (List ℕ)} (g
       record {
         long = entered.long;
         more = omega arith;
-        most = omega (arith, le);
         room = λ h. subst⁻¹ (Copied d key old) kept (record { rising = g.ready.rising; led = g.ready.led; keeps = λ k m. m; has = there; closes = λ k m. inl m });
         full = λ h. absurd (omega arith);
       }
@@ -222,7 +215,6 @@ module _ {d : Draft} {key row count r : ℕ} {before after : List (List ℕ)} (g
       record {
         long = c.long ∙ entered.long;
         more = omega (arith, c.more, entered_more h);
-        most = c.most;
         room = λ le. extended_entered (subst (λ l. Extended d (leads_to d key) l (keys last end)) (entered.room h).0 (subst (λ l. Extended d l (keys r after) (keys last end)) is (c.room le)));
         full = c.full;
       }
@@ -241,22 +233,18 @@ large_misfit sc large = go (fits sc) refl
         let agents = (and_both t a two).1 in
         absurd (⊎_elim (λ h. omega (arith, leb-true (length sc.agents) 1024 agents)) (λ h. omega (arith, leb-true (length sc.roots) 64 roots)) large)
 
-over_misfit : (d : Draft) → Over (places d) → fits (plain_of d) ≡ false
+pub over_misfit : (d : Draft) → Over (places d) → fits (plain_of d) ≡ false
 unfolding plain_of
 over_misfit d over = large_misfit (plain_of d) (⊎_elim
     (λ h. inl (subst⁻¹ (λ n. 1024 < n) (length-map (agent_places (places d)) _) h))
     (λ h. inr (subst⁻¹ (λ n. 64 < n) (length-map (procedure_places (places d)) _) h)) over)
 
-pub overfull_misfit : (d : Draft) → Overfull d → fits (plain_of d) ≡ false
-overfull_misfit d many = over_misfit d (overfull_over d many)
-
 pub copied_places : {d : Draft} {r : ℕ} {before after : List (List ℕ)} → length before ≡ 1088 → CopiedTo d (pair (procedure_at 0) 0) 0 before r after → PlacesIn d r after
 copied_places {d} {r} {before} {after} long c =
     record {
       long = c.long ∙ long;
-      most = c.most;
       exact = λ h. let x = c.room h in sym (places_unique d (keys r after) x.rising x.led
           (record { starts = x.has; leads = λ k m. ⊎_elim (λ y. absurd (mathlib.Core.List.Memᴰ.not-nil y)) (λ f. f) (x.closes k m) })
           (omega (arith, keys_length r after (omega (arith, c.long)))));
-      over = c.full;
+      over = λ h. over_misfit d (overfull_over d (c.full h));
     }

@@ -16,10 +16,10 @@ use Rattle.tcc.specs.declared.Agent.TheVariants.{Skip, Abort, Tell, Parallel, Wh
 use Rattle.format.specs.Decode.{sizes}
 use Rattle.draft_language.specs.Draft.{Draft, draft_agent_at}
 use Rattle.draft_language.specs.declared.DraftAgent.TheVariants.{Plain}
-use Rattle.draft_language.proofs.Whens.{agents_most, when_is, part_known}
+use Rattle.draft_language.proofs.Whens.{when_is, part_known}
 use Rattle.draft_pairs.specs.Pairs.{pair, number_in, set_in}
 use Rattle.draft_plain.specs.Places.{procedure_at, target, agent_leads, leads_to}
-use Rattle.draft_plain.proofs.Places.{KnownAgent, leads_agent}
+use Rattle.draft_plain.proofs.Places.{KnownAgent, agents_most, leads_agent}
 use Rattle.draft_format.specs.DraftFile.{decode_draft}
 use Rattle.draft_format.specs.Translatable.{Translatable}
 use Rattle.draft_copying.specs.declared.targets.References.{References}

@@ -3,19 +3,19 @@
 --     root_read, root_below        the root of a procedure, read as a score's, is one of the agents
 --     token_few                    the token of a watch is one of 256
 --     body_below                   its body has a lower number
-use mathlib.Core.Path.{◌≡◌, refl, ◌∙◌}
-use mathlib.Core.List.{List}
+use mathlib.Core.Path.{◌≡◌, refl, sym, subst, ◌∙◌}
+use mathlib.Core.List.{List, Memᴰ}
 use Prim.Native.Nat.{ℕ, ◌<◌}
 use native.Mathlib.Omega.{arith}
 use lib.ListN.{length, length-map, length-take, length-drop}
-use Rattle.tcc.specs.Score.{root_of}
+use Rattle.tcc.specs.Score.{root_of, tokens_of}
+use Rattle.tcc.proofs.Multiset.{part_lower}
 use Rattle.format.specs.Decode.{sizes, decode}
 use Rattle.draft_language.specs.Draft as draft
-use Rattle.draft_language.specs.Draft.{draft_agent_at}
+use Rattle.draft_language.specs.Draft.{draft_agent_at, whens}
 use Rattle.draft_language.specs.declared.DraftAgent.TheVariants.{Watch}
-use Rattle.draft_language.proofs.Whens.{whens_many, watch_known, body_lower}
+use Rattle.draft_language.proofs.Whens.{when_is, whens_many}
 use Rattle.draft_format.specs.DraftFile.{decode_draft}
-use Rattle.draft_format.proofs.Draft.{draft_agents}
 use Rattle.draft_format.specs.Translatable.{Translatable}
 
 pub root_read : (s : List ℕ) (p : ℕ) → root_of (decode s) p ≡ draft.root_of (decode_draft s) p
@@ -24,7 +24,8 @@ root_read s p = refl
 
 module _ {s : List ℕ} (ok : Translatable s) where
   pub agents_many : length (decode_draft s).agents ≡ (sizes s).agents
-  agents_many = draft_agents s (omega (arith, ok.whole))
+  unfolding decode_draft
+  agents_many = simp (length-map, length-take, length-drop) (omega (arith, ok.whole))
 
   pub roots_many : length (decode_draft s).roots ≡ (sizes s).procedures
   unfolding decode_draft
@@ -37,7 +38,9 @@ module _ {s : List ℕ} (ok : Translatable s) where
 
   module _ (i : ℕ) {t b : ℕ} (e : draft_agent_at (decode_draft s) i ≡ Watch t b) where
     pub token_few : t < 256
-    token_few = omega (arith, watch_known (decode_draft s) ok.lawful i e, ok.lawful.tokens_at_most)
+    token_few =
+        let known : t < (decode_draft s).tokens = ok.lawful.tokens_known i t (subst (λ a. Memᴰ t (tokens_of a)) (sym (when_is (decode_draft s) i e)) (Memᴰ.head refl)) in
+        omega (arith, ok.lawful.tokens_at_most)
 
     pub body_below : b < i
-    body_below = body_lower (decode_draft s) ok.lawful i e
+    body_below = part_lower (whens (decode_draft s)) ok.lawful i (when_is (decode_draft s) i e) b (Memᴰ.head refl)

@@ -131,7 +131,7 @@ module _ (s : List ℕ) where
       ∙ get_or-map draft_agent_of part i 0
       ∙ ap draft_agent_of (get_or-take (sizes s).agents (drop 2 (words s)) i 0 h ∙ get_or-drop 2 (words s) i 0)
 
-  pub draft_agents : 2 + (sizes s).agents ≤ length (words s) → length (decode_draft s).agents ≡ (sizes s).agents
+  draft_agents : 2 + (sizes s).agents ≤ length (words s) → length (decode_draft s).agents ≡ (sizes s).agents
   unfolding decode_draft
   draft_agents h = simp (length-map, length-take, length-drop) (omega arith)
 

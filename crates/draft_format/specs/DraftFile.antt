@@ -1,10 +1,8 @@
 -- The bytes of a draft.
---     when_byte, as_whens  a draft's bytes with each agent word of kind 15 as the same word of kind 7: byte n is the
---                          highest of word n div 4, agent words are those from word 2 on, and a byte of 240 or more has
---                          kind 15
---     draft_verdict        the score check of a draft. "Watch is unguarded": it is read as a when, which has the same
---                          fields
---     draft_agent_of       the agent of a word: "kind 15, watch: body in bits 9 to 0, token in 17 to 10"
+--     when_byte, as_whens  a draft's bytes with each agent word of kind 15 as the same word of kind 7: byte n is the highest
+--                          of word n div 4, agent words are those from word 2 on, and a byte of 240 or more has kind 15
+--     draft_verdict        "a watch is tested like a when for 4, 5, 6, and is unguarded like one for 7"
+--     draft_agent_of       the agent of a word: "kind 15, watch: body 9..0, token 17..10"
 --     decode_draft         the draft that bytes stand for
 use Rattle.std.specs.Prelude.{cond, ◌&&◌, List, [], ◌∷◌, map, ℕ, suc, ◌+◌, ◌-◌, ◌*◌, ◌%◌, eqb, leb, ltb, take, drop}
 use Rattle.words.specs.Word.{field, kind, words, word_at}

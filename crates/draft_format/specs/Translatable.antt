@@ -1,5 +1,5 @@
--- Contracts of inner functions: the bytes of a draft that may be translated. All words are there, and the draft that
--- they stand for is lawful. The check of drafts accepts no others.
+-- Contracts of inner functions: the bytes of a draft that may be translated. All words are there, and the draft that they
+-- stand for is lawful. The check of drafts accepts no others.
 use Rattle.std.specs.Prelude.{List, ℕ, ◌+◌, ◌≤◌, length}
 use Rattle.words.specs.Word.{words}
 use Rattle.format.specs.Decode.{sizes}

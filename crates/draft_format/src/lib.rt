@@ -57,11 +57,10 @@ fn when_byte(agents: usize, n: usize, b: u8) -> u8
     if 8 + 4 * agents <= n {
         return b;
     }
-    let highest = b as u32;
-    if words::bits(highest, 4, 4) != 15 {
+    if b < 240 {
         return b;
     }
-    words::bits(highest, 0, 7) as u8
+    b - 128
 }
 
 // Checks the first bytes of a buffer.

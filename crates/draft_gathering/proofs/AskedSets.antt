@@ -17,7 +17,7 @@ use lib.ListN.{get_or}
 use Rattle.laws.specs.Sets.{keep}
 use Rattle.laws.specs.Rising.{Rising, none}
 use Rattle.laws.proofs.Booleans.{true_is_false, cond_true, cond_false}
-use Rattle.laws.proofs.Sets.{Within, Among, holds_none}
+use Rattle.laws.proofs.Sets.{Within, Among}
 use Rattle.laws.proofs.Rising.{rising_unique}
 use Rattle.tcc.specs.declared.Agent.{Agent}
 use Rattle.tcc.specs.declared.Agent.TheVariants.{Skip, Abort, Tell, Parallel, When, Next, Unless, Call}
@@ -25,6 +25,7 @@ use Rattle.draft_language.specs.Draft.{Draft, draft_agent_at, as_when, LawfulDra
 use Rattle.draft_language.specs.declared.DraftAgent.{DraftAgent}
 use Rattle.draft_pairs.specs.TokenSets.{holds, members, several}
 use Rattle.draft_pairs.specs.Pairs.{number_in, set_in, insert, insert_all, index_of}
+use Rattle.draft_pairs.proofs.TokenSets.{holds_none}
 use Rattle.draft_pairs.proofs.Rising.{insert_rising, insert_member, member_insert, insert_kept, insert_all_rising, insert_all_member, member_insert_all}
 use Rattle.draft_table.specs.Tables.{Placed}
 use Rattle.draft_table.proofs.Tables.{placed_index}

@@ -5,7 +5,7 @@
 --     size, next                     the set asked for next has the tokens that were counted; the pairs before k + 1
 --     entering_more, entering_same   a set of two tokens or more is entered, another is not
 --     entering_rising                the table rises
---     tokens_said                    the draft has as many tokens as its head says
+--     agents_few, tokens_said        the draft has no more agents than its head says, and as many tokens
 --     led, known, place_read         a pair of a plain score's agents: it is led to, of an agent of the draft, which may be read
 --     names_few, asked_few           that agent names tokens below 256, and asks for a set of tokens of the draft
 use mathlib.Core.Path.{◌≡◌, refl, sym, ap, ap₂, ◌∙◌}
@@ -17,14 +17,13 @@ use native.Mathlib.Decide.{dec_lt}
 use native.Mathlib.Omega.{arith}
 use borrow.Author.Tests.{lt-ltb, le-ltb}
 use lib.Dec.{eqb, ltb}
-use lib.ListN.{length, get_or}
+use lib.ListN.{length, get_or, length-map, length-take, length-drop}
 use Rattle.laws.specs.Rising.{Rising}
 use Rattle.laws.proofs.Booleans.{either}
 use Rattle.laws.proofs.Sets.{Within}
 use Rattle.words.specs.Word.{words}
 use Rattle.format.specs.Decode.{sizes}
 use Rattle.draft_language.specs.Draft.{Draft, draft_agent_at}
-use Rattle.draft_language.proofs.Whens.{token_known}
 use Rattle.draft_language.specs.declared.DraftAgent.{DraftAgent}
 use Rattle.draft_pairs.specs.TokenSets.{holds, members, several}
 use Rattle.draft_pairs.specs.Pairs.{number_in, set_in, insert}
@@ -38,9 +37,9 @@ use Rattle.draft_plain.specs.Led.{Led}
 use Rattle.draft_plain.proofs.Places.{KnownAgent}
 use Rattle.draft_plain.proofs.PlainPairs.{agent_led, led_agent}
 use Rattle.draft_plain.proofs.AskedLaws.{asked_rising}
+use Rattle.draft_plain.proofs.Asked.{token_known}
 use Rattle.draft_format.specs.DraftFile.{decode_draft}
 use Rattle.draft_format.specs.Translatable.{Translatable}
-use Rattle.draft_copying.proofs.Translatable.{agents_many}
 use Rattle.draft_gathering.specs.Asking.{tokens_named, asked_by}
 use Rattle.draft_gathering.proofs.Members.{held_in_lem}
 use Rattle.draft_gathering.proofs.Keys.{keys_more}
@@ -95,6 +94,10 @@ entering_rising {d} {table} {k} g = rw g.same (asked_rising d (keys k table))
 -- ---- a pair of a draft that may be translated
 
 module _ (s : List ℕ) where
+  agents_few : length (decode_draft s).agents ≤ (sizes s).agents
+  unfolding decode_draft
+  agents_few = simp (length-map, length-take, length-drop) (omega arith)
+
   tokens_said : (decode_draft s).tokens ≡ (sizes s).tokens
   unfolding decode_draft
   tokens_said = refl
@@ -107,7 +110,7 @@ module _ {s : List ℕ} (ok : Translatable s) {key : ℕ} (m : Memᴰ key (agent
   known = led_agent (decode_draft s) ok.lawful led (agent_led (decode_draft s) m).1
 
   pub place_read : {n : ℕ} → n ≡ number_in key → (2 + n < length (words s)) × (n < (sizes s).agents)
-  place_read e = omega (arith, known.known, agents_many ok, ok.whole)
+  place_read e = omega (arith, known.known, agents_few s, ok.whole)
 
   module _ {written : DraftAgent} (is : draft_agent_at (decode_draft s) (number_in key) ≡ written) where
     pub names_few : Within (λ t. t < 256) (tokens_named written)

@@ -65,7 +65,7 @@ map_take f (suc n) (x ∷ l) = ap (λ k. f x ∷ k) (map_take f n l)
 pub record Parted (d : Draft) (table : List (List ℕ)) (pairs copied : ℕ) : Type 0 where
   pub within : copied ≤ pairs
   pub agents_are : keys copied table ≡ agent_places (places d)
-  pub copied_many : length (agent_places (places d)) ≡ copied
+  pub agents_many : length (agent_places (places d)) ≡ copied
   pub procedures_many : length (procedure_places (places d)) ≡ pairs - copied
 
 pub table_parted : {d : Draft} {table : List (List ℕ)} {pairs copied : ℕ} → pairs ≤ length table → keys pairs table ≡ places d → Placed (keys pairs table) (pair 1024 0) copied → Parted d table pairs copied
@@ -78,7 +78,7 @@ table_parted {d} {table} {pairs} {copied} few are p =
     record {
       within = within;
       agents_are = agents;
-      copied_many = sym (ap length agents) ∙ keys_length copied table (omega arith);
+      agents_many = sym (ap length agents) ∙ keys_length copied table (omega arith);
       procedures_many = ap (λ l. length (procedure_places l)) (sym are) ∙ ap length high ∙ length-drop copied (keys pairs table) ∙ ap (λ n. n - copied) many;
     }
 
@@ -122,7 +122,7 @@ module _ (d : Draft) where
 
 module _ {d : Draft} {table : List (List ℕ)} {pairs copied : ℕ} (p : Parted d table pairs copied) where
   pub many_agents : 1024 < copied → fits (plain_of d) ≡ false
-  many_agents h = many_misfit d (λ few. omega (arith, few.few_agents, p.copied_many))
+  many_agents h = many_misfit d (λ few. omega (arith, few.few_agents, p.agents_many))
 
   pub many_procedures : 64 < pairs - copied → fits (plain_of d) ≡ false
   many_procedures h = many_misfit d (λ few. omega (arith, few.few_procedures, p.procedures_many))

@@ -79,8 +79,8 @@ module _ {s : List ℕ} {head : Sizes} {table sets : List (List ℕ)} {pairs cop
   sets_many : length (sets_in s) ≡ count
   sets_many = sym (ap length a.are) ∙ keys_length count sets (omega (arith, sets_fit, a.long))
 
-  copied_many : copied ≡ length (agents_in s)
-  copied_many = sym (keys_length copied table (omega (arith, a.fit.copied_fit, a.fit.table_long))) ∙ ap length a.fit.copied_are
+  agents_many : copied ≡ length (agents_in s)
+  agents_many = sym (keys_length copied table (omega (arith, a.fit.copied_fit, a.fit.table_long))) ∙ ap length a.fit.copied_are
 
   tokens_are : (decode_draft s).tokens ≡ head.tokens
   unfolding decode_draft
@@ -120,13 +120,13 @@ module _ {s : List ℕ} {head : Sizes} {table sets : List (List ℕ)} {pairs cop
           words_are = words_are;
           pairs_fit = a.fit.pairs_fit;
           pairs_are = a.fit.pairs_are;
-          copied_are = copied_many;
+          copied_are = agents_many;
           sets_fit = sets_fit;
           sets_are = a.are;
           fitting = few_fits (decode_draft s)
               (record {
                 few_tokens = omega (arith, tokens, tokens_are, sets_many);
-                few_agents = omega (arith, copied_many, a.fit.copied_fit);
+                few_agents = omega (arith, agents_many, a.fit.copied_fit);
                 few_procedures = a.fit.procedures_fit;
                 few_rules = omega (arith, rules, rules_many, members_many);
               });

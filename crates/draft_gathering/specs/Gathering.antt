@@ -1,6 +1,4 @@
--- Contracts of inner functions: what gathering comes to. Where a limit is passed both tables are the program's choice,
--- and else the rows past those in use; every choice has the same answer and counts, and the same pairs and sets in use,
--- and those are all that is read.
+-- Contracts of inner functions: what gathering comes to.
 --     PairsFit       the pairs stand in a table, and no limit of agents and procedures is passed
 --     GatheredBy     all is gathered, or a limit is passed
 use Rattle.std.specs.Prelude.{◌≡◌, false, List, ℕ, ◌≤◌, length}

@@ -1,5 +1,4 @@
 -- The chains of a draft show the history of the plain score.
---     Starts               what a chain starts with, where it has an instant
 --     start_beside         the multisets and the stores that an instant starts with
 --     old_has              the two stores pass the same tests of the draft's tokens
 --     output_carried, status_carried, quiet_shown     so a quiet instant shows the same
@@ -7,7 +6,8 @@
 --     chain_shown, carried_over     so does a chain: the theorem
 use mathlib.Core.Path.{◌≡◌, refl, sym, ap, ap₂, ◌∙◌}
 use mathlib.Core.Bool.{Bool, true, false}
-use mathlib.Core.List.{List, [], ◌∷◌, ◌++◌, map, Memᴰ}
+use mathlib.Core.List.Memᴰ
+use mathlib.Core.List.{List, [], ◌∷◌, ◌++◌, map}
 use Prim.Native.Nat.{ℕ, ◌<◌}
 use native.Mathlib.Omega.{arith}
 use Rattle.laws.specs.Sets.{Same, has}
@@ -27,16 +27,13 @@ use Rattle.journal_words.specs.History.{instant_words, entry, history}
 use Rattle.draft_language.specs.Draft.{Draft, whens}
 use Rattle.draft_language.specs.Order.{Copy, Item, copy, input, End, aborted, left, start}
 use Rattle.draft_language.specs.Chain.{InputsKnown, Chain, none, then, aborts, store_status, shown_at, shown}
-use Rattle.draft_language.proofs.Carries.{Extends, Carries, here, there, OkEnds, StandingAll, places_of, CarriedOver}
+use Rattle.draft_language.proofs.Carries.{Extends, Carries, OkEnds, StandingAll, places_of, CarriedOver}
 use Rattle.draft_language.proofs.Matching.{matches_start}
 use Rattle.draft_language.proofs.Stores.{start_extends}
 use Rattle.draft_language.proofs.Orders.{ItemStands, Beside, order_leads}
 use Rattle.draft_language.proofs.Ends.{quiet_ends}
 
 module _ {d : Draft} {sc : Score} {Member : ℕ → ℕ → Type 0} {Ok : List ℕ → Type 0} {Standing : ℕ → List ℕ → Type 0} {place : ℕ → List ℕ → ℕ} (carries : Carries d sc Member Ok Standing place) where
-  abbrev pub Starts : List Copy → List ℕ → List End → Type 0
-  Starts copies agents ends = (e : End) → Memᴰ e ends → StandingAll d sc Member Ok Standing place copies × Same (places_of place copies) agents
-
   pub start_beside : {copies : List Copy} {inputs s : List ℕ} → Closes (whens d) [] s → StandingAll d sc Member Ok Standing place copies → Within (λ t. t < d.tokens) inputs → Beside carries (start copies inputs) s (plain.start (places_of place copies) inputs) (closure sc [])
   start_beside {copies} {inputs} closes stands known = record {
     matches = matches_start place copies inputs;
@@ -72,22 +69,20 @@ module _ {d : Draft} {sc : Score} {Member : ℕ → ℕ → Type 0} {Ok : List �
   aborted_shown (inputs ∷ rest) = ap₂ ◌++◌ (ap (instant_words 2 inputs) (sym (output_none sc 2))) (aborted_shown rest)
 
   chain_shown : {copies : List Copy} {instants : List (List ℕ)} {ends : List End} → Chain d copies instants ends → (agents : List ℕ) →
-      OkEnds d sc Member Ok Standing place ends → InputsKnown d.tokens instants → Starts copies agents ends →
-      shown d instants ends ≡ history sc (running agents) instants
+      OkEnds d sc Member Ok Standing place ends → InputsKnown d.tokens instants → StandingAll d sc Member Ok Standing place copies →
+      Same (places_of place copies) agents → shown d instants ends ≡ history sc (running agents) instants
   unfolding shown history answer
-  chain_shown none agents ok known starts = refl
-  chain_shown (then {copies = copies} {inputs = inputs} {s' = s'} {rest = more} {l = l} closes order quiet rest) agents ok known starts =
-      let (stands, same) = starts (left l s') (Memᴰ.head refl) in
-      let ended = quiet_ends carries (order_leads carries order (start_beside closes stands (known inputs (Memᴰ.head refl)))) quiet in
+  chain_shown none agents ok known stands same = refl
+  chain_shown (then {copies = copies} {inputs = inputs} {s' = s'} {rest = more} {l = l} closes order quiet rest) agents ok known stands same =
+      let ended = quiet_ends carries (order_leads carries order (start_beside closes stands (known inputs (Memᴰ.head refl)))) quiet (ok (left l s') (Memᴰ.head refl)) in
       let q = confluence sc agents (places_of place copies) inputs (closure sc []) ended.steps (plain.left ended.items ended.store) same (closure_exact sc []) ended.order ended.quiet in
       ap₂ ◌++◌ (quiet_shown ended.extends inputs l q)
-      (chain_shown rest (instant sc agents inputs).awake (λ e m. ok e (there m)) (λ x m. known x (Memᴰ.tail m)) (λ e m. (ended.stands, same_trans (ended.awake (ok (left l s') (here m))) q.awake))
+      (chain_shown rest (instant sc agents inputs).awake (λ e m. ok e (Memᴰ.tail m)) (λ x m. known x (Memᴰ.tail m)) ended.stands (same_trans ended.awake q.awake)
       ∙ ap (λ st. history sc st more) (sym (after_running (instant sc agents inputs) q.unaborted)))
-  chain_shown (aborts {copies = copies} {inputs = inputs} {rest = more} closes order) agents ok known starts =
-      let (stands, same) = starts aborted (Memᴰ.head refl) in
+  chain_shown (aborts {copies = copies} {inputs = inputs} {rest = more} closes order) agents ok known stands same =
       let ended = order_leads carries order (start_beside closes stands (known inputs (Memᴰ.head refl))) in
       let e = confluence sc agents (places_of place copies) inputs (closure sc []) ended.0 plain.aborted same (closure_exact sc []) ended.1 tt in
       rw e (aborted_shown (inputs ∷ more))
 
 pub carried_over : (d : Draft) (sc : Score) (Member : ℕ → ℕ → Type 0) (Ok : List ℕ → Type 0) (Standing : ℕ → List ℕ → Type 0) (place : ℕ → List ℕ → ℕ) → CarriedOver d sc Member Ok Standing place
-carried_over d sc Member Ok Standing place carries copies agents instants ends chain ok known stands same = chain_shown carries chain agents ok known (λ e m. (stands, same))
+carried_over d sc Member Ok Standing place carries copies agents instants ends chain ok known stands same = chain_shown carries chain agents ok known stands same

@@ -6,8 +6,7 @@
 --     NextCarried, AgentCarried, Carried     the plain agent of a copy does what the copy does; a watch's is its body's
 --     Carries       so for every copy that stands under its set, and the rules, tokens and ports are as they should be
 --     places_of      the plain agents of copies
---     Earlier       an end of a list that another follows
---     OkEnd, OkEnds, StandingAll     of a chain: its quiet stores but the last, its copies
+--     OkEnd, OkEnds, StandingAll     of a chain: its quiet stores, its copies
 --     CarriedOver   what the chains of a draft then show
 use mathlib.Core.Path.{◌≡◌}
 use mathlib.Core.List.{List, [], ◌∷◌, map, Memᴰ}
@@ -40,10 +39,6 @@ member_rule u m = record { premises = m ∷ m ∷ []; conclusion = u }
 -- `place i set`: the plain agent of a copy of agent i under a set
 abbrev pub places_of : (ℕ → List ℕ → ℕ) → List Copy → List ℕ
 places_of place copies = map (λ c. place c.agent c.under) copies
-
-pub data Earlier (e : End) : List End → Type 0 where
-  here : {x : End} {ends : List End} → Memᴰ x ends → Earlier e (e ∷ ends)
-  there : {x : End} {ends : List End} → Earlier e ends → Earlier e (x ∷ ends)
 
 -- `Ok s`: what is asked of the store of a quiet instant; `Standing i set`: a copy of agent i may stand under a set
 module _ (d : Draft) (sc : Score) (Member : ℕ → ℕ → Type 0) (Ok : List ℕ → Type 0) (Standing : ℕ → List ℕ → Type 0) (place : ℕ → List ℕ → ℕ) where
@@ -89,7 +84,7 @@ module _ (d : Draft) (sc : Score) (Member : ℕ → ℕ → Type 0) (Ok : List �
   OkEnd (left l s) = Ok s
 
   abbrev pub OkEnds : List End → Type 0
-  OkEnds ends = (e : End) → Earlier e ends → OkEnd e
+  OkEnds ends = (e : End) → Memᴰ e ends → OkEnd e
 
   abbrev pub StandingAll : List Copy → Type 0
   StandingAll copies = (c : Copy) → Memᴰ c copies → Standing c.agent c.under

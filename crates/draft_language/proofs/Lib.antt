@@ -14,5 +14,4 @@ pub mod Sifting
 pub mod Ends
 pub mod Carried
 pub mod Absent
-pub mod ChainFront
 pub mod Unwatched

@@ -1,17 +1,16 @@
--- Where no watch token is in the store of any instant but perhaps the last, a draft shows what it shows with every watch read
--- as its body.
+-- In a history in which no watch token is ever in the store, a draft shows what it shows with every watch read as its body.
 --     goes_on, within_plain, within_watch, within_same    the equations of `body_within`; any bound above the agent is enough
 --     body_plain, body_watch     the equations of `body_of`, without its bound
 --     read_at, root_read         the agents and the roots of the draft so read
 --     NoMember, Clear, Under, place     how it stands beside the draft: there are no new tokens, no watch token is in a quiet
 --                                store, a copy stands under watch tokens, and its agent is what its reference means
---     earlier_front, never_ok    the quiet stores but the last of a history in which no watch token is in before are clear
+--     never_ok                   the quiet stores of a history in which no watch token is ever in are clear
 --     asks_own                   an unless asks for its own token; none of its set's is in a clear store
 --     agent_read, read_carried, unwatched_carries     so the draft so read plays as the draft does
 --     start_under, start_read    it starts as the draft does, under no token
 --     unwatched_shown            the theorem
 use mathlib.Core.Path.{◌≡◌, refl, ap, ◌∙◌}
-use mathlib.Core.List.{List, [], ◌∷◌, ◌++◌, Memᴰ}
+use mathlib.Core.List.{List, [], ◌∷◌, Memᴰ}
 use mathlib.Core.Logic.{inl}
 use Prim.Native.Nat.{ℕ, zero, suc, ◌<◌}
 use native.Mathlib.Omega.{arith}
@@ -30,18 +29,12 @@ use Rattle.draft_language.specs.Chain.{start_copies}
 use Rattle.draft_language.specs.Unwatched.{body_within, body_of, read_on, unwatched, WatchToken, NeverIn, Unwatched}
 use Rattle.draft_language.specs.declared.DraftAgent.{DraftAgent}
 use Rattle.draft_language.specs.declared.DraftAgent.TheVariants.{Plain, Watch}
-use Rattle.draft_language.proofs.Carries.{Asks, AgentCarried, Carried, Carries, places_of, Earlier, here, there, OkEnds, StandingAll}
+use Rattle.draft_language.proofs.Carries.{Asks, AgentCarried, Carried, Carries, places_of, OkEnds, StandingAll}
 use Rattle.draft_language.proofs.Whens.{when_is, token_known, body_lower}
 use Rattle.draft_language.proofs.Carried.{carried_over}
 
 abbrev NoMember : ℕ → ℕ → Type 0
 NoMember u m = ⊥
-
-earlier_front : (ends : List End) (last : End) {e : End} → Earlier e (ends ++ last ∷ []) → Memᴰ e ends
-earlier_front [] last (here m) = elim m [ ]
-earlier_front [] last (there m) = elim m [ ]
-earlier_front (e ∷ ends) last (here m) = Memᴰ.head refl
-earlier_front (e ∷ ends) last (there m) = Memᴰ.tail (earlier_front ends last m)
 
 module _ (d : Draft) where
   -- a turn of `body_within`, over any agent in place of agent i
@@ -90,9 +83,9 @@ module _ (d : Draft) where
   abbrev place : ℕ → List ℕ → ℕ
   place i set = body_of d i
 
-  never_ok : (ends : List End) (last : End) → NeverIn d ends → OkEnds d (unwatched d) NoMember Clear Under place (ends ++ last ∷ [])
-  never_ok ends last never aborted m = tt
-  never_ok ends last never (left l s) m = never l s (earlier_front ends last m)
+  never_ok : {ends : List End} → NeverIn d ends → OkEnds d (unwatched d) NoMember Clear Under place ends
+  never_ok never aborted m = tt
+  never_ok never (left l s) m = never l s m
 
 module _ (d : Draft) (law : LawfulDraft d) where
   asks_own : (t : ℕ) (set : List ℕ) → t < d.tokens → Within (WatchToken d) set → Asks d (unwatched d) NoMember (Clear d) (Under d) (place d) t (t ∷ set)
@@ -138,6 +131,6 @@ module _ (d : Draft) (law : LawfulDraft d) where
   start_read = rw (root_read d 0 law.some_roots) (same_refl (body_of d (root_of d 0) ∷ []))
 
 pub unwatched_shown : Unwatched
-unwatched_shown d instants ends last law known chain never =
-    carried_over d (unwatched d) NoMember (Clear d) (Under d) (place d) (unwatched_carries d law) (start_copies d) (plain.root_of (unwatched d) 0 ∷ []) instants (ends ++ last ∷ []) chain
-    (never_ok d ends last never) known (start_under d law) (start_read d law)
+unwatched_shown d instants ends law known chain never =
+    carried_over d (unwatched d) NoMember (Clear d) (Under d) (place d) (unwatched_carries d law) (start_copies d) (plain.root_of (unwatched d) 0 ∷ []) instants ends chain
+    (never_ok d never) known (start_under d law) (start_read d law)

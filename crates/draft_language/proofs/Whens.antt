@@ -2,14 +2,12 @@
 --     when_at                    its agent i is agent i of the draft, a watch read as a when
 --     when_is                    so where the form of agent i is known
 --     whens_many                 it has as many agents
---     agents_most                no more than 1,024, where the draft is lawful
 --     token_known                the tokens that an agent names are the draft's
---     written_lower              the bodies and halves of an agent are lower than it
---     watch_known, body_lower    so the token of a watch is the draft's, and its body is lower
+--     body_lower                 the body of a watch is lower than it
 --     part_known, root_known     a body or half of a known agent is known, and so is the root that an agent calls
 use mathlib.Core.Path.{◌≡◌, refl, sym, ap, ◌∙◌, subst}
 use mathlib.Core.List.{Memᴰ}
-use Prim.Native.Nat.{ℕ, ◌<◌, ◌≤◌}
+use Prim.Native.Nat.{ℕ, ◌<◌}
 use native.Mathlib.Omega.{arith}
 use lib.ListN.{length, length-map, get_or-map}
 use Rattle.laws.proofs.Sets.{Within}
@@ -31,20 +29,11 @@ module _ (d : Draft) where
   whens_many = length-map d.agents as_when
 
   module _ (law : LawfulDraft d) where
-    pub agents_most : length d.agents ≤ 1024
-    agents_most = omega (arith, law.agents_at_most, whens_many)
-
     pub token_known : (i : ℕ) {x : DraftAgent} → draft_agent_at d i ≡ x → Within (λ t. t < d.tokens) (tokens_of (as_when x))
     token_known i e t m = law.tokens_known i t (subst (λ a. Memᴰ t (tokens_of a)) (sym (when_is i e)) m)
 
-    pub written_lower : (i : ℕ) {x : DraftAgent} → draft_agent_at d i ≡ x → Within (λ b. b < i) (parts_of (as_when x))
-    written_lower i e = part_lower (whens d) law i (when_is i e)
-
-    pub watch_known : (i : ℕ) {t b : ℕ} → draft_agent_at d i ≡ Watch t b → t < d.tokens
-    watch_known i {t} e = token_known i e t (Memᴰ.head refl)
-
     pub body_lower : (i : ℕ) {t b : ℕ} → draft_agent_at d i ≡ Watch t b → b < i
-    body_lower i {b = b} e = written_lower i e b (Memᴰ.head refl)
+    body_lower i {t} {b} e = part_lower (whens d) law i (when_is i e) b (Memᴰ.head refl)
 
     pub part_known : (i : ℕ) {x : DraftAgent} → i < length d.agents → draft_agent_at d i ≡ x → Within (λ b. b < length d.agents) (parts_of (as_when x))
     part_known i h e b m = subst (λ n. b < n) whens_many (part_below (whens d) law i (omega (arith, whens_many)) (when_is i e) b m)

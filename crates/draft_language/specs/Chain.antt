@@ -1,8 +1,8 @@
 -- A chain of finished orders of a draft along a list of instants, and the journal that it shows.
 --     InputsKnown    a list of instants over the tokens below T
---     Chain          finished orders at each instant, each starting with the very copies that the one before left
---                    awake, and how each ends; once one aborts, every later instant is aborted
---     start_copies   a draft that starts has procedure 0's root under no token
+--     Chain          finished orders at each instant, each starting with the very copies that the one before left awake, and
+--                    how each ends; once one aborts, every later instant is aborted
+--     start_copies   "a draft that starts has procedure 0's root under no token"
 --     store_status   the status of a quiet instant: 1 where token 0 is in the store, and 0
 --     shown_at       the words of one instant: its status, its inputs and what goes to the ports
 --     shown          the words of the instants of a chain

@@ -1,8 +1,7 @@
--- "A draft is a score in which an agent word may be kind 15, watch".
+-- "A draft is a score in which an agent word may be kind 15, watch."
 --     Draft                    T tokens, the ports, the agents as written, the root of each procedure, the rules
 --     draft_agent_at, root_of  agent i; the root agent of procedure p
---     as_when, whens           a watch is tested and "unguarded" as a when is: a watch, and each watch of a draft,
---                              read as a when
+--     as_when, whens           "tested like a when", "unguarded like one": a watch, and each watch of a draft, read as a when
 --     LawfulDraft              what every draft has that the check of drafts accepts
 use Rattle.std.specs.Prelude.{ℕ, List, map, get_or}
 use Rattle.tcc.specs.Closure.{Rule}

@@ -2,17 +2,16 @@
 --     Copy             an agent, and the set of watch tokens that this copy of it stands under
 --     Item             a copy in the multiset: of an agent under its set, or of an input token's tell
 --     Pick x l k       one copy x is picked from the multiset l, and k is left
---     Step             one reduction: each of document 01 hands the set on; a watch goes, in one step and in the same
---                      instant, to its body under its set with its token added
+--     Step             one reduction. "Each reduction of document 01 hands the set on; a watch goes, in one step and in the
+--                      same instant, to its body under its set with its token added."
 --     End              how an order ends: at an abort, or with what is left and the store
---     Order            from a multiset and a store: the copies reduced, in order, and how it ends or where it breaks
---                      off
+--     Order            from a multiset and a store: the copies reduced, in order, and how it ends or where it breaks off
 --     Quiet            no copy can be reduced
 --     Finished         at an abort, or quiet
 --     watched          a token of a set is in the store
 --     agent_wakes, wakes    the body that an agent still there would have awake next: of a next or of an unless
---     awake_next       the body of a next or of an unless still there is awake next, under its set, if no token of that
---                      set is in the store; otherwise it is gone
+--     awake_next       "the body of a next or of an unless still there is awake next, under its set, if no token of that set
+--                      is in the store; otherwise it is gone"
 --     start            the multiset that an instant starts with
 use Rattle.std.specs.Prelude.{◌≡◌, Bool, cond, ℕ}
 use mathlib.Core.List.{List, [], ◌∷◌, ◌++◌, map, Memᴰ}
@@ -37,22 +36,14 @@ pub data Pick (x : Item) : List Item → List Item → Type 0 where
   there : {y : Item} {l k : List Item} → Pick x l k → Pick x (y ∷ l) (y ∷ k)
 
 pub data Step (d : Draft) : Item → List Item → List ℕ → List Item → List ℕ → Type 0 where
-  skip : {i : ℕ} {set : List ℕ} {l k : List Item} {s : List ℕ} → Pick (copy i set) l k → draft_agent_at d i ≡ Plain Skip →
-      Step d (copy i set) l s k s
-  tell : {i t : ℕ} {set : List ℕ} {l k : List Item} {s s' : List ℕ} → Pick (copy i set) l k →
-      draft_agent_at d i ≡ Plain (Tell t) → Closes (whens d) (t ∷ s) s' → Step d (copy i set) l s k s'
-  input_tell : {t : ℕ} {l k : List Item} {s s' : List ℕ} → Pick (input t) l k → Closes (whens d) (t ∷ s) s' →
-      Step d (input t) l s k s'
-  parallel : {i a b : ℕ} {set : List ℕ} {l k : List Item} {s : List ℕ} → Pick (copy i set) l k →
-      draft_agent_at d i ≡ Plain (Parallel a b) → Step d (copy i set) l s (copy a set ∷ copy b set ∷ k) s
-  call : {i p : ℕ} {set : List ℕ} {l k : List Item} {s : List ℕ} → Pick (copy i set) l k →
-      draft_agent_at d i ≡ Plain (Call p) → Step d (copy i set) l s (copy (root_of d p) set ∷ k) s
-  when : {i t b : ℕ} {set : List ℕ} {l k : List Item} {s : List ℕ} → Pick (copy i set) l k →
-      draft_agent_at d i ≡ Plain (When t b) → Memᴰ t s → Step d (copy i set) l s (copy b set ∷ k) s
-  unless : {i t b : ℕ} {set : List ℕ} {l k : List Item} {s : List ℕ} → Pick (copy i set) l k →
-      draft_agent_at d i ≡ Plain (Unless t b) → Memᴰ t s → Step d (copy i set) l s k s
-  watch : {i t b : ℕ} {set : List ℕ} {l k : List Item} {s : List ℕ} → Pick (copy i set) l k →
-      draft_agent_at d i ≡ Watch t b → Step d (copy i set) l s (copy b (t ∷ set) ∷ k) s
+  skip : {i : ℕ} {set : List ℕ} {l k : List Item} {s : List ℕ} → Pick (copy i set) l k → draft_agent_at d i ≡ Plain Skip → Step d (copy i set) l s k s
+  tell : {i t : ℕ} {set : List ℕ} {l k : List Item} {s s' : List ℕ} → Pick (copy i set) l k → draft_agent_at d i ≡ Plain (Tell t) → Closes (whens d) (t ∷ s) s' → Step d (copy i set) l s k s'
+  input_tell : {t : ℕ} {l k : List Item} {s s' : List ℕ} → Pick (input t) l k → Closes (whens d) (t ∷ s) s' → Step d (input t) l s k s'
+  parallel : {i a b : ℕ} {set : List ℕ} {l k : List Item} {s : List ℕ} → Pick (copy i set) l k → draft_agent_at d i ≡ Plain (Parallel a b) → Step d (copy i set) l s (copy a set ∷ copy b set ∷ k) s
+  call : {i p : ℕ} {set : List ℕ} {l k : List Item} {s : List ℕ} → Pick (copy i set) l k → draft_agent_at d i ≡ Plain (Call p) → Step d (copy i set) l s (copy (root_of d p) set ∷ k) s
+  when : {i t b : ℕ} {set : List ℕ} {l k : List Item} {s : List ℕ} → Pick (copy i set) l k → draft_agent_at d i ≡ Plain (When t b) → Memᴰ t s → Step d (copy i set) l s (copy b set ∷ k) s
+  unless : {i t b : ℕ} {set : List ℕ} {l k : List Item} {s : List ℕ} → Pick (copy i set) l k → draft_agent_at d i ≡ Plain (Unless t b) → Memᴰ t s → Step d (copy i set) l s k s
+  watch : {i t b : ℕ} {set : List ℕ} {l k : List Item} {s : List ℕ} → Pick (copy i set) l k → draft_agent_at d i ≡ Watch t b → Step d (copy i set) l s (copy b (t ∷ set) ∷ k) s
 
 -- an abort ends the instant with an empty store and no agent; otherwise what is left in the multiset, and the store
 pub data End : Type 0 where
@@ -62,10 +53,8 @@ pub data End : Type 0 where
 -- the length of an order is the number of copies that it reduced
 pub data Order (d : Draft) : List Item → List ℕ → List Item → End → Type 0 where
   stop : {l : List Item} {s : List ℕ} → Order d l s [] (left l s)
-  step : {x : Item} {l k more : List Item} {s s' : List ℕ} {e : End} → Step d x l s k s' → Order d k s' more e →
-      Order d l s (x ∷ more) e
-  abort : {i : ℕ} {set : List ℕ} {l k : List Item} {s : List ℕ} → Pick (copy i set) l k →
-      draft_agent_at d i ≡ Plain Abort → Order d l s (copy i set ∷ []) aborted
+  step : {x : Item} {l k more : List Item} {s s' : List ℕ} {e : End} → Step d x l s k s' → Order d k s' more e → Order d l s (x ∷ more) e
+  abort : {i : ℕ} {set : List ℕ} {l k : List Item} {s : List ℕ} → Pick (copy i set) l k → draft_agent_at d i ≡ Plain Abort → Order d l s (copy i set ∷ []) aborted
 
 pub record Quiet (d : Draft) (l : List Item) (s : List ℕ) : Type 0 where
   pub no_step : (x : Item) (k : List Item) (s' : List ℕ) → Step d x l s k s' → ⊥

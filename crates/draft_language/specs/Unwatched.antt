@@ -1,13 +1,13 @@
--- Where no watch token is in the store of any instant of a history but perhaps the last, the draft's journal is that of
--- the draft with every watch read as its body: an act still runs in the instant in which its token comes.
+-- "In a history in which no watch token is ever in the store, the draft's journal is that of the draft with every watch read
+-- as its body."
 --     body_within, body_of    the agent that a reference means where each watch on its way is read as its body
 --     read_on          an agent, its references so read
 --     unwatched       the draft with every watch so read: no reference leads to a watch any more
 --     WatchToken      some watch of the draft watches for a token
---     NeverIn         no watch token is in the store of a quiet end of a list
---     Unwatched       the claim, of a chain whose ends are a list and a last one
+--     NeverIn         no watch token is in the store of a quiet instant of a chain
+--     Unwatched       the claim
 use Rattle.std.specs.Prelude.{◌≡◌, ℕ, zero, suc}
-use mathlib.Core.List.{List, [], ◌∷◌, ◌++◌, map, Memᴰ}
+use mathlib.Core.List.{List, map, Memᴰ}
 use Rattle.tcc.specs.Score.{Score}
 use Rattle.tcc.specs.Instant.{start_state}
 use Rattle.tcc.specs.declared.Agent.{Agent}
@@ -55,6 +55,6 @@ NeverIn d ends = (l : List Item) (s : List ℕ) → Memᴰ (left l s) ends → (
 
 abbrev pub Unwatched : Type 0
 Unwatched =
-    (d : Draft) (instants : List (List ℕ)) (ends : List End) (last : End) → LawfulDraft d →
-    InputsKnown d.tokens instants → Chain d (start_copies d) instants (ends ++ last ∷ []) → NeverIn d ends →
-    shown d instants (ends ++ last ∷ []) ≡ history (unwatched d) (start_state (unwatched d)) instants
+    (d : Draft) (instants : List (List ℕ)) (ends : List End) → LawfulDraft d → InputsKnown d.tokens instants →
+    Chain d (start_copies d) instants ends → NeverIn d ends →
+    shown d instants ends ≡ history (unwatched d) (start_state (unwatched d)) instants

@@ -1,5 +1,5 @@
--- Every instant of a draft ends: an order, finished or broken off anywhere, is no longer than the summed weight of
--- what it starts with, a watch weighing 1 and its body, and from every multiset and store there is a finished order.
+-- Every instant of a draft ends: an order, finished or broken off anywhere, is no longer than the summed weight of what it
+-- starts with, a watch weighing 1 and its body, and from every multiset and store there is a finished order.
 --     total           summed over the copies and the input tokens that an order starts with
 --     ItemsBelow, CopiesBelow     every agent of a multiset, of a list of copies, is one of the draft's
 --     WeightBound     the length of any order

@@ -6,7 +6,7 @@
 --     index_below, index_at, at_index       where a member stands, and what stands there
 --     index_order                           a lower member stands before
 use mathlib.Core.Path.{◌≡◌, refl, sym, ap}
-use mathlib.Core.Bool.{true, false}
+use mathlib.Core.Bool.{Bool, false}
 use mathlib.Core.List.Memᴰ
 use mathlib.Core.List.{List, [], ◌∷◌, Memᴰ}
 use mathlib.Core.Logic.{◌⊎◌, inl, inr, ⊎_elim}
@@ -20,7 +20,7 @@ use Rattle.laws.specs.Sets.{keep}
 use Rattle.laws.specs.Rising.{Rising, one, more}
 use Rattle.laws.proofs.Booleans.{by_test, either}
 use Rattle.laws.proofs.Lists.{entry_member}
-use Rattle.laws.proofs.Sets.{Within, Among, on_cons, keep_kept, keep_few, keep_fewer}
+use Rattle.laws.proofs.Sets.{Within, Among, on_cons, keep_kept, keep_few}
 use Rattle.laws.proofs.Rising.{rising_tail, rising_above, rising_least, rising_cons}
 use Rattle.draft_pairs.specs.Pairs.{insert, insert_all, index_of}
 
@@ -82,12 +82,19 @@ member_insert_all (k ∷ ks) l =
       λ x y. kept x (rest.1 x y),
     )
 
+-- a test that a member fails keeps fewer
+keep_fewer : (f : ℕ → Bool) {x : ℕ} {l : List ℕ} → Memᴰ x l → f x ≡ false → length (keep f l) < length l
+keep_fewer f {x} (Memᴰ.head {x = y} {xs = l} e) p = let q : f y ≡ false = rw (← e) p in rw q (omega (arith, keep_few f l))
+keep_fewer f {x} (Memᴰ.tail {x = y} {xs = l} m) p =
+    let h : length (keep f l) < length l = keep_fewer f m p in
+    either (λ k. length k < suc (length l)) (f y) (omega arith) (omega arith)
+
 pub rising_among : (l k : List ℕ) → Rising l → Among l k → length l ≤ length k
 rising_among [] k p h = omega arith
 rising_among (x ∷ l) k p h =
     let above : List ℕ = keep (λ y. ltb x y) k in
     let rest : length l ≤ length above = rising_among l above (rising_tail p) (λ y m. keep_kept (λ z. ltb x z) (h y (Memᴰ.tail m)) (lt-ltb x y (rising_above p y m))) in
-    omega (arith, keep_fewer (λ y. true) (λ y. ltb x y) (h x (Memᴰ.head refl)) (λ y m e. refl) refl (le-ltb x x (omega arith)), keep_few (λ y. true) k)
+    omega (arith, keep_fewer (λ y. ltb x y) (h x (Memᴰ.head refl)) (le-ltb x x (omega arith)))
 
 pub index_below : (k : ℕ) (l : List ℕ) → Memᴰ k l → index_of k l < length l
 index_below k [] x = absurd (Memᴰ.not-nil x)

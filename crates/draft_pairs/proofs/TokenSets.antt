@@ -1,5 +1,5 @@
 -- Laws of sets of tokens as numbers, and of pairs.
---     holds_with                    what is in a set with a token added
+--     holds_with, holds_none        what is in a set with a token added; nothing is in the empty set
 --     with_bound, with_held         it stays below 2 to the power of n; a token that is in adds nothing
 --     same_holds                    sets with the same tokens are the same number
 --     member_holds, holds_member    the members are the tokens below 256 that are in
@@ -21,8 +21,10 @@ use lib.Pow.{pow_pos, pow-add, shr_lt, shr-shr, split, high, low}
 use Rattle.laws.specs.Sets.{below, has}
 use Rattle.laws.specs.Rising.{Rising}
 use Rattle.laws.proofs.Booleans.{by_test, cond_true}
-use Rattle.laws.proofs.Sets.{on_keep, keep_kept, below_lt, lt_below, holds_none}
+use Rattle.laws.proofs.Sets.{on_keep, keep_kept, below_lt, lt_below}
 use Rattle.laws.proofs.Rising.{rising_keep, below_rising}
+use Rattle.words.specs.Word.{field}
+use Rattle.bits.proofs.Bits.{bit_none}
 use Rattle.draft_pairs.specs.TokenSets.{holds, with, members}
 use Rattle.draft_pairs.specs.Pairs.{pair, number_in, set_in}
 
@@ -74,6 +76,10 @@ pub holds_with : (t u set : ℕ) → holds (with t set) u ≡ (eqb u t || holds 
 holds_with t u set = by_cases (ℕ_discrete u t)
     (λ e. ap (holds (with t set)) e ∙ with_here t set ∙ sym (ap (λ b. b || holds set u) (eq-eqb u t e)))
     (λ d. with_other t u set d ∙ sym (ap (λ b. b || holds set u) (ne_eqb u t d)))
+
+pub holds_none : (t : ℕ) → holds 0 t ≡ false
+unfolding holds field
+holds_none t = bit_none t
 
 pub with_bound : (n t set : ℕ) → t < n → set < 2 ^ n → with t set < 2 ^ n
 unfolding with

@@ -3,10 +3,12 @@
 --     with           a set with a token added
 --     members        the tokens of a set, rising
 --     several        whether a set has two tokens or more
-use Rattle.std.specs.Prelude.{Bool, cond, List, ℕ, ◌+◌, ◌^◌, ltb, length}
+use Rattle.std.specs.Prelude.{Bool, cond, List, ℕ, ◌+◌, ◌/◌, ◌%◌, ◌^◌, eqb, ltb, length}
 use Rattle.laws.specs.Sets.{below, keep}
-unfoldable pub use Rattle.laws.specs.Sets.{holds}
 use Rattle.tcc.specs.Limits.{most_tokens}
+
+unfoldable pub holds : ℕ → ℕ → Bool
+holds set t = eqb (set / 2 ^ t % 2) 1
 
 unfoldable pub with : ℕ → ℕ → ℕ
 with t set = cond (holds set t) set (set + 2 ^ t)

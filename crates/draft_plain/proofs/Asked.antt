@@ -1,6 +1,6 @@
 -- The sets that a plain score asks for at quiet, and the tokens that stand for them.
 --     Known                         every token of a list is the draft's
---     known_bound                   the set of such tokens is below 2 to the power of 256
+--     token_known, known_bound      so of the tokens that an agent names; the set of such tokens is below 2 to the power of 256
 --     sets_several                  each asked set has two tokens or more
 --     MemberFrom                    the new tokens of a list of sets, numbered from n, and their members
 --     member_ruled, ruled_member    the new rules are those from each member to its new token
@@ -9,7 +9,7 @@
 --     sum_some                      a set with a token is not empty
 --     StandsFor                     a token of the plain score is in exactly where a token of a set is
 --     asked_token_lem               so is the token that is asked for a set: a new one, or the only token of the set
-use mathlib.Core.Path.{◌≡◌, refl, sym, ap, ◌∙◌}
+use mathlib.Core.Path.{◌≡◌, refl, sym, ap, ◌∙◌, subst⁻¹}
 use mathlib.Core.Bool.{true, false}
 use mathlib.Core.List.{List, [], ◌∷◌, map, Memᴰ}
 use Prim.Native.Nat.{ℕ, zero, suc, ◌+◌, ◌-◌, ◌^◌, ◌<◌, ◌≤◌}
@@ -20,14 +20,17 @@ use lib.ListN.{length, get_or}
 use borrow.Author.Tests.{ltb-true, ltb-false}
 use Rattle.laws.proofs.Booleans.{true_is_false, by_test}
 use Rattle.laws.proofs.Lists.{entry_member}
-use Rattle.laws.proofs.Sets.{Within, on_append, on_map, map_member, has_member, member_has, holds_none}
+use Rattle.laws.proofs.Sets.{Within, on_append, on_map, map_member, has_member, member_has}
 use Rattle.tcc.specs.Closure.{Rule}
-use Rattle.draft_language.specs.Draft.{Draft, LawfulDraft}
+use Rattle.tcc.specs.Score.{tokens_of}
+use Rattle.draft_language.specs.Draft.{Draft, draft_agent_at, as_when, LawfulDraft}
+use Rattle.draft_language.specs.declared.DraftAgent.{DraftAgent}
+use Rattle.draft_language.proofs.Whens.{when_is}
 use Rattle.draft_language.proofs.Carries.{Extends, member_rule}
 use Rattle.draft_pairs.specs.TokenSets.{holds, members, several}
 use Rattle.draft_pairs.specs.Pairs.{index_of}
 use Rattle.draft_plain.specs.Plain.{asked_token, member_rules}
-use Rattle.draft_pairs.proofs.TokenSets.{member_holds, holds_member, members_none, sum_of, sum_holds, sum_bound}
+use Rattle.draft_pairs.proofs.TokenSets.{holds_none, member_holds, holds_member, members_none, sum_of, sum_holds, sum_bound}
 use Rattle.draft_pairs.proofs.Rising.{index_below, index_at}
 use Rattle.draft_plain.proofs.AskedLaws.{on_asked, asked_known}
 use Rattle.draft_plain.proofs.PlainScore.{agents_in, sets_in}
@@ -36,6 +39,9 @@ abbrev pub Known : Draft → List ℕ → Type 0
 Known d l = Within (λ t. t < d.tokens) l
 
 module _ (d : Draft) (law : LawfulDraft d) where
+  pub token_known : (i : ℕ) {w : DraftAgent} → draft_agent_at d i ≡ w → Known d (tokens_of (as_when w))
+  token_known i e t m = law.tokens_known i t (subst⁻¹ (λ a. Memᴰ t (tokens_of a)) (when_is d i e) m)
+
   known_few : (l : List ℕ) → Known d l → Within (λ t. t < 256) l
   known_few l known t m = let h : t < d.tokens = known t m in omega (arith, law.tokens_at_most)
 
@@ -87,7 +93,7 @@ StandsFor d u set =
     ((m : ℕ) → Memᴰ m set → Memᴰ m s → Memᴰ u p) × (Memᴰ u p → (m : ℕ) × Memᴰ m set × Memᴰ m s)
 
 -- a list that has one member or none, and is not empty
-pub one_alone : (l : List ℕ) → ltb 1 (length l) ≡ false → (l ≡ [] → ⊥) → Within (λ m. m ≡ get_or l 0 0) l × Memᴰ (get_or l 0 0) l
+one_alone : (l : List ℕ) → ltb 1 (length l) ≡ false → (l ≡ [] → ⊥) → Within (λ m. m ≡ get_or l 0 0) l × Memᴰ (get_or l 0 0) l
 one_alone [] few some = absurd (some refl)
 one_alone (x ∷ []) few some = (λ m at. mathlib.Core.List.Memᴰ.eq_of_singleton at, mathlib.Core.List.Memᴰ.head refl)
 one_alone (x ∷ y ∷ l) few some = absurd (omega (arith, ltb-false 1 (length (x ∷ y ∷ l)) few))

@@ -21,21 +21,20 @@ use borrow.Author.Tests.{eqb-true, eq-eqb}
 use Rattle.laws.specs.Sets.{Same, below, keep}
 use Rattle.laws.specs.Rising.{Rising, none, one}
 use Rattle.laws.proofs.Booleans.{by_test}
-use Rattle.laws.proofs.Sets.{Within, on_cons, on_append, on_keep, keep_kept, keep_none, holds_none}
+use Rattle.laws.proofs.Sets.{Within, on_cons, on_append, on_keep, keep_kept, keep_none}
 use Rattle.laws.proofs.Rising.{rising_unique}
 use Rattle.tcc.specs.declared.Agent.{Agent}
 use Rattle.tcc.specs.declared.Agent.TheVariants.{Skip, Abort, Tell, Parallel, When, Next, Unless, Call}
 use Rattle.draft_language.specs.Draft.{Draft, draft_agent_at, as_when, LawfulDraft}
-use Rattle.draft_language.proofs.Whens.{token_known}
 use Rattle.draft_language.specs.declared.DraftAgent.TheVariants.{Plain}
 use Rattle.draft_pairs.specs.TokenSets.{holds, with, members, several}
 use Rattle.draft_pairs.specs.Pairs.{insert_all, number_in, set_in, index_of}
 use Rattle.draft_plain.specs.Places.{places, agent_places}
 use Rattle.draft_plain.specs.Plain.{asks_for, agent_in, all_asked, asked_sets, asked_token}
-use Rattle.draft_pairs.proofs.TokenSets.{holds_with, member_holds, holds_member, members_rising}
+use Rattle.draft_pairs.proofs.TokenSets.{holds_with, holds_none, member_holds, holds_member, members_rising}
 use Rattle.draft_plain.specs.Led.{Led}
 use Rattle.draft_plain.proofs.Places.{led_known}
-use Rattle.draft_plain.proofs.PlainPairs.{led_agent, agent_led}
+use Rattle.draft_plain.proofs.PlainPairs.{written_tokens, led_agent, agent_led}
 use Rattle.draft_pairs.proofs.Rising.{insert_all_rising, insert_all_member, member_insert_all, index_below}
 
 module _ (d : Draft) where
@@ -117,7 +116,7 @@ module _ (d : Draft) (law : LawfulDraft d) (k : ℕ) (led : Led d k) where
   asks_known {a = Parallel x y} e = λ set m. elim m [ ]
   asks_known {a = When t b} e = λ set m. elim m [ ]
   asks_known {a = Next b} e = on_cons (led_known d law k led).tokens_known (λ set m. elim m [ ])
-  asks_known {a = Unless t b} e = on_cons (with_known d.tokens t (set_in k) (token_known d law (number_in k) e t (Memᴰ.head refl)) (led_known d law k led).tokens_known) (λ set m. elim m [ ])
+  asks_known {a = Unless t b} e = on_cons (with_known d.tokens t (set_in k) (written_tokens d law (number_in k) e t (Memᴰ.head refl)) (led_known d law k led).tokens_known) (λ set m. elim m [ ])
   asks_known {a = Call p} e = λ set m. elim m [ ]
 
 pub asked_known : (d : Draft) → LawfulDraft d → Within (λ set. (t : ℕ) → holds set t ≡ true → t < d.tokens) (asked_sets d (agent_places (places d)))

@@ -29,7 +29,6 @@ use Rattle.tcc.specs.Score as plain
 use Rattle.tcc.specs.declared.Agent.{Agent}
 use Rattle.tcc.specs.declared.Agent.TheVariants.{Skip, Abort, Tell, Parallel, When, Next, Unless, Call}
 use Rattle.draft_language.specs.Draft.{Draft, draft_agent_at, root_of, as_when, LawfulDraft}
-use Rattle.draft_language.proofs.Whens.{agents_most, token_known}
 use Rattle.draft_language.specs.declared.DraftAgent.{DraftAgent}
 use Rattle.draft_language.specs.declared.DraftAgent.TheVariants.{Plain, Watch}
 use Rattle.draft_language.proofs.Carries.{Asks, NextCarried, AgentCarried, Carried, Carries}
@@ -43,10 +42,10 @@ use Rattle.draft_pairs.proofs.Rising.{index_below, index_at, at_index, index_ord
 use Rattle.draft_plain.specs.Led.{Led}
 use Rattle.draft_plain.proofs.Places.{target_plain, target_watch, stands_led_agent, stands_led_procedure, stands_bound_agent}
 use Rattle.draft_plain.proofs.Copying.{PlacesFit}
-use Rattle.draft_plain.proofs.PlainPairs.{procedure_led, agent_listed, procedure_listed}
+use Rattle.draft_plain.proofs.PlainPairs.{draft_agents, procedure_led, agent_listed, procedure_listed}
 use Rattle.draft_plain.proofs.PlainScore.{agents_in, procedures_in, sets_in, procedures_rising, fits_sizes, places_fit}
 use Rattle.draft_plain.proofs.AskedLaws.{asked_listed}
-use Rattle.draft_plain.proofs.Asked.{Known, known_bound, member_ruled, ruled_member, Member, member_old, member_some, sum_some, StandsFor, asked_token_lem}
+use Rattle.draft_plain.proofs.Asked.{Known, token_known, known_bound, member_ruled, ruled_member, Member, member_old, member_some, sum_some, StandsFor, asked_token_lem}
 
 abbrev pub Standing : Draft → ℕ → List ℕ → Type 0
 Standing d i set = Stands d (agent i (sum_of set)) × ((t : ℕ) → Memᴰ t set → t < d.tokens)
@@ -81,7 +80,7 @@ module _ (d : Draft) (law : LawfulDraft d) (fit : fits (plain_of d) ≡ true) wh
     pair_agent = ap (λ n. as_when (draft_agent_at d n)) pair_number ∙ ap as_when e
 
     pair_low : number_in (pair i (sum_of set)) < 1024
-    pair_low = omega (arith, pair_number, (stands_bound_agent d law i (sum_of set) st.0).1, agents_most d law)
+    pair_low = omega (arith, pair_number, (stands_bound_agent d law i (sum_of set) st.0).1, draft_agents d law)
 
     is_pair : target d i (sum_of set) ≡ pair i (sum_of set)
     is_pair = target_plain d i (sum_of set) a e

@@ -2,6 +2,7 @@
 --     Closed              a list with the start that holds whatever its pairs lead to
 --     Over                more agents or more procedures than a plain score can have
 --     PlacesFit           no more agents and procedures than that
+--     keep_either         where each entry passes one of two tests, as many as there are pass the two
 --     kinds_all           each pair is of an agent or of a procedure
 --     fit_short, long_over        how many pairs fit, and how many do not
 --     insert_all_longer, insert_all_same      inserting leaves a list no shorter; where as long, all was there
@@ -16,7 +17,7 @@
 --     places_unique       a rising, closed list of no more than 1,088 pairs that are led to is the computed one
 --     overfull_over       where there are more pairs than a plain score can have, the computed ones are too many
 use mathlib.Core.Path.{◌≡◌, refl, sym, ap, ◌∙◌}
-use mathlib.Core.Bool.{Bool, true, false}
+use mathlib.Core.Bool.{Bool, true, false, cond}
 use mathlib.Core.List.Memᴰ
 use mathlib.Core.List.{List, [], ◌∷◌, Memᴰ}
 use mathlib.Core.Logic.{◌⊎◌, inl, inr, ⊎_elim}
@@ -26,10 +27,10 @@ use native.Mathlib.Omega.{arith}
 use lib.Dec.{eqb, ltb, leb}
 use lib.ListN.{length}
 use borrow.Author.Tests.{eqb-true, eqb-false, ltb-false, le-leb}
-use Rattle.laws.specs.Sets.{has}
+use Rattle.laws.specs.Sets.{keep, has}
 use Rattle.laws.specs.Rising.{Rising, one}
 use Rattle.laws.proofs.Booleans.{true_is_false, either, by_test}
-use Rattle.laws.proofs.Sets.{Within, Among, on_cons, on_append, keep_either, has_member, member_has}
+use Rattle.laws.proofs.Sets.{Within, Among, on_cons, on_append, has_member, member_has}
 use Rattle.laws.proofs.Rising.{rising_unique}
 use Rattle.draft_language.specs.Draft.{Draft}
 use Rattle.draft_pairs.specs.Pairs.{pair, number_in, insert_all}
@@ -47,6 +48,16 @@ Over l = (1024 < length (agent_places l)) ⊎ (64 < length (procedure_places l))
 pub record PlacesFit (l : List ℕ) : Type 0 where
   pub agents_fit : length (agent_places l) ≤ 1024
   pub procedures_fit : length (procedure_places l) ≤ 64
+
+keep_either : {A : Type 0} (f g : A → Bool) → ((x : A) → f x ≡ false → g x ≡ true) → (l : List A) → length l ≤ length (keep f l) + length (keep g l)
+keep_either f g h [] = omega arith
+keep_either f g h (x ∷ l) = go (f x) (g x) (h x) (keep_either f g h l)
+  where
+    go : (b c : Bool) → (b ≡ false → c ≡ true) → length l ≤ length (keep f l) + length (keep g l) → suc (length l) ≤ length (cond b (x ∷ keep f l) (keep f l)) + length (cond c (x ∷ keep g l) (keep g l))
+    go true true e rest = omega arith
+    go true false e rest = omega arith
+    go false true e rest = omega arith
+    go false false e rest = absurd (true_is_false (e refl) refl)
 
 kinds_all : (l : List ℕ) → length l ≤ length (agent_places l) + length (procedure_places l)
 kinds_all l = keep_either (λ k. ltb (number_in k) 1024) (λ k. leb 1024 (number_in k)) (λ k e. le-leb 1024 (number_in k) (ltb-false (number_in k) 1024 e)) l

@@ -9,9 +9,6 @@ pub mod Unchanged
 pub mod Different
 pub mod Askings
 pub mod Limits
-pub mod OnPaths
-pub mod StoppedCopy
-pub mod ActsByHand
 pub mod Asked
 pub mod Carrying
 pub mod Exact

@@ -21,33 +21,36 @@ use Rattle.laws.proofs.Sets.{Within, on_cons, on_map, map_member}
 use Rattle.tcc.specs.declared.Agent.{Agent}
 use Rattle.tcc.specs.declared.Agent.TheVariants.{Skip, Abort, Tell, Parallel, When, Next, Unless, Call}
 use Rattle.draft_language.specs.Draft.{Draft, draft_agent_at, as_when, LawfulDraft}
-use Rattle.draft_language.proofs.Whens.{agents_most}
 use Rattle.draft_language.specs.declared.DraftAgent.TheVariants.{Plain}
 use Rattle.draft_pairs.specs.TokenSets.{with, several}
 use Rattle.draft_plain.specs.Stands.{Place, agent, procedure, Stands, root}
 use Rattle.draft_pairs.specs.Pairs.{pair, number_in, set_in}
 use Rattle.draft_plain.specs.Places.{procedure_at, places}
 use Rattle.draft_plain.specs.Plain.{asks_for, agent_in, plain_of, fits, member_rules}
-use Rattle.draft_plain.specs.OnPaths.{pair_of}
 use Rattle.draft_plain.specs.Limits.{Different, MoreThan, AgentPair, ProcedurePair, Asked, by_next, by_unless, Asking, AskedMember, Passes, Limits}
 use Rattle.draft_pairs.proofs.TokenSets.{number_pair, set_pair, pair_parts, holds_member, member_holds}
 use Rattle.draft_plain.specs.Led.{Led}
 use Rattle.draft_plain.proofs.Places.{KnownAgent, target_plain, stands_led_agent, stands_led_procedure, led_stands_agent, led_stands_procedure, stands_bound_agent}
 use Rattle.draft_plain.proofs.Copying.{PlacesFit}
-use Rattle.draft_plain.proofs.PlainPairs.{led_agent, agent_led, procedure_led, agent_listed, procedure_listed}
+use Rattle.draft_plain.proofs.PlainPairs.{draft_agents, led_agent, agent_led, procedure_led, agent_listed, procedure_listed}
 use Rattle.draft_plain.proofs.AskedLaws.{asked_rising, asked_listed, on_asked, asked_known}
 use Rattle.draft_plain.proofs.PlainScore.{agents_in, procedures_in, sets_in, score_in, agents_rising, procedures_rising, agents_length, roots_length, Sizes, fits_sizes, places_fit}
 use Rattle.draft_plain.proofs.Different.{rising_different, different_map, different_few}
 use Rattle.draft_plain.proofs.Askings.{askings_of, askings_many, askings_different, asking_listed, on_askings}
 
-abbrev pub agent_place : ℕ → Place
+abbrev agent_place : ℕ → Place
 agent_place k = agent (number_in k) (set_in k)
 
-abbrev pub procedure_place : ℕ → Place
+abbrev procedure_place : ℕ → Place
 procedure_place k = procedure (number_in k - 1024) (set_in k)
 
+-- a place back as a pair
+abbrev pair_at : Place → ℕ
+pair_at (agent i set) = pair i set
+pair_at (procedure p set) = pair (procedure_at p) set
+
 agents_apart : (k m : ℕ) → agent_place k ≡ agent_place m → k ≡ m
-agents_apart k m e = sym (pair_parts k) ∙ ap pair_of e ∙ pair_parts m
+agents_apart k m e = sym (pair_parts k) ∙ ap pair_at e ∙ pair_parts m
 
 not_both : (a b : Bool) → (a && b) ≡ false → (a ≡ false) ⊎ (b ≡ false)
 not_both true b e = inr e
@@ -68,22 +71,22 @@ module _ (d : Draft) (law : LawfulDraft d) where
       let known = led_agent d law led low in
       (known, led_stands_agent d law k led known)
 
-  pub agent_is : (k : ℕ) → Memᴰ k (agents_in d) → AgentPair d (agent_place k)
+  agent_is : (k : ℕ) → Memᴰ k (agents_in d) → AgentPair d (agent_place k)
   agent_is k m = let (known, stands) = agent_stands k m in (number_in k, set_in k, known.written, refl, known.is_written, stands)
 
-  pub procedure_is : (k : ℕ) → Memᴰ k (procedures_in d) → ProcedurePair d (procedure_place k)
+  procedure_is : (k : ℕ) → Memᴰ k (procedures_in d) → ProcedurePair d (procedure_place k)
   procedure_is k m =
       let (led, high) = procedure_led d m in
       (number_in k - 1024, set_in k, refl, led_stands_procedure d law k (number_in k - 1024) led (omega arith))
 
-  pub procedure_parts : (k : ℕ) → Memᴰ k (procedures_in d) → pair_of (procedure_place k) ≡ k
-  procedure_parts k m =
-      let high = (procedure_led d m).1 in
-      let number : procedure_at (number_in k - 1024) ≡ number_in k = omega arith in
-      ap (λ i. pair i (set_in k)) number ∙ pair_parts k
-
   procedures_apart : (k m : ℕ) → Memᴰ k (procedures_in d) → Memᴰ m (procedures_in d) → procedure_place k ≡ procedure_place m → k ≡ m
-  procedures_apart k m a b e = sym (procedure_parts k a) ∙ ap pair_of e ∙ procedure_parts m b
+  procedures_apart k m a b e = sym (procedure_parts k a) ∙ ap pair_at e ∙ procedure_parts m b
+    where
+      procedure_parts : (j : ℕ) → Memᴰ j (procedures_in d) → pair_at (procedure_place j) ≡ j
+      procedure_parts j n =
+          let high = (procedure_led d n).1 in
+          let number : procedure_at (number_in j - 1024) ≡ number_in j = omega arith in
+          ap (λ i. pair i (set_in j)) number ∙ pair_parts j
 
   asks_asked : (k : ℕ) → Stands d (agent_place k) → (a : Agent) → draft_agent_at d (number_in k) ≡ Plain a → Within (λ set. several set ≡ true → Asked d set) (asks_for (set_in k) a)
   asks_asked k s Skip e = λ set m. elim m [ ]
@@ -95,7 +98,7 @@ module _ (d : Draft) (law : LawfulDraft d) where
   asks_asked k s (Unless t b) e = on_cons (by_unless s e) (λ set m. elim m [ ])
   asks_asked k s (Call p) e = λ set m. elim m [ ]
 
-  pub asked_is : Within (Asked d) (sets_in d)
+  asked_is : Within (Asked d) (sets_in d)
   asked_is = on_asked d (Asked d) (agents_in d) each
     where
       each : (k : ℕ) → Memᴰ k (agents_in d) → Within (λ set. several set ≡ true → Asked d set) (asks_for (set_in k) (agent_in d k))
@@ -120,19 +123,19 @@ module _ (d : Draft) (law : LawfulDraft d) where
   rules_over h = more_than (askings_of (sets_in d)) (askings_different (sets_in d) (asked_rising d (agents_in d))) (on_askings (AskedMember d) (sets_in d) (λ set t m n. (asked_is set m, (member_holds set n).1))) (omega (arith, rules_length))
 
   -- and what is counted is one of the copying's, where that fits
-  pub set_small : {i set : ℕ} → Stands d (agent i set) → set < 2 ^ 256
+  set_small : {i set : ℕ} → Stands d (agent i set) → set < 2 ^ 256
   set_small {i} {set} s = lt_of_lt_of_le (stands_bound_agent d law i set s).0 (pow_mono law.tokens_at_most)
 
   module _ (fit : PlacesFit (places d)) where
     pair_listed : (i set : ℕ) (a : Agent) → draft_agent_at d i ≡ Plain a → Stands d (agent i set) → Memᴰ (pair i set) (agents_in d)
-    pair_listed i set a e s = agent_listed d law fit (subst (Led d) (target_plain d i set a e) (stands_led_agent d law i set s)) (omega (arith, number_pair i set (set_small s), (stands_bound_agent d law i set s).1, agents_most d law))
+    pair_listed i set a e s = agent_listed d law fit (subst (Led d) (target_plain d i set a e) (stands_led_agent d law i set s)) (omega (arith, number_pair i set (set_small s), (stands_bound_agent d law i set s).1, draft_agents d law))
 
-    pub agent_counted : (x : Place) → AgentPair d x → Memᴰ x (map agent_place (agents_in d))
+    agent_counted : (x : Place) → AgentPair d x → Memᴰ x (map agent_place (agents_in d))
     agent_counted x (i, set, a, is, e, stands) =
         let s : Stands d (agent i set) = subst (Stands d) is stands in
         Memᴰ.cast (is ∙ sym (ap₂ agent (number_pair i set (set_small s)) (set_pair i set (set_small s)))) (map_member agent_place (pair_listed i set a e s))
 
-    pub procedure_counted : (x : Place) → ProcedurePair d x → Memᴰ x (map procedure_place (procedures_in d))
+    procedure_counted : (x : Place) → ProcedurePair d x → Memᴰ x (map procedure_place (procedures_in d))
     procedure_counted x (p, set, is, stands) =
         let s : Stands d (procedure p set) = subst (Stands d) is stands in
         let number = number_pair (procedure_at p) set (set_small (root s)) in
@@ -146,7 +149,7 @@ module _ (d : Draft) (law : LawfulDraft d) where
         asks : asks_for (set_in (pair i set)) (agent_in d (pair i set)) ≡ asks_for set a
         asks = ap₂ asks_for (set_pair i set (set_small s)) (ap (λ n. as_when (draft_agent_at d n)) (number_pair i set (set_small s)) ∙ ap as_when e)
 
-    pub asked_counted : (set : ℕ) → Asked d set → Memᴰ set (sets_in d)
+    asked_counted : (set : ℕ) → Asked d set → Memᴰ set (sets_in d)
     asked_counted set (by_next {i = i} {b = b} s e h) = asks_listed i set set (Next b) e s (Memᴰ.head refl) h
     asked_counted asked (by_unless {i = i} {t = t} {b = b} {set = set} s e h) = asks_listed i set (with t set) (Unless t b) e s (Memᴰ.head refl) h
 

@@ -1,4 +1,5 @@
 -- What references lead to, and the pairs of a draft as what is led to from the start.
+--     body_lower, watch_known     a draft's agents as the lawful score of whens has them
 --     target_ends                    what holds at an agent that is no watch, and of a watch where it holds of its body,
 --                                    holds of each target
 --     target_plain, target_watch     the equations of `target`, without its bound
@@ -6,6 +7,7 @@
 --     Known                          what every pair that is led to is: of an agent that is no watch, or of a procedure
 --     holds_below                    the tokens of a set below 2 to the power of n are below n
 --     Bound, stands_bound            what stands has a set below 2 to the power of T, and is the draft's
+--     agents_most                    a lawful draft has no more than 1,024 agents
 --     pair_apart                     the pair of what stands has its number and its set
 --     PairStands, led_stands         a pair that is led to is of what stands, and of no watch
 --     PlaceLed, stands_led           and the pair of whatever stands is led to
@@ -23,15 +25,16 @@ use native.Mathlib.Nat.{div-eq_of_lt, le_trans, le_of_eq}
 use native.Mathlib.Decide.{dec_lt}
 use native.Mathlib.Omega.{arith}
 use lib.Dec.{eqb}
-use lib.ListN.{length}
+use lib.ListN.{length, length-map}
 use lib.Pow.{pow_mono, pow_pos}
 use borrow.Author.Tests.{lt-ltb, le-ltb}
 use Rattle.laws.proofs.Booleans.{true_is_false}
 use Rattle.laws.proofs.Sets.{Within, on_cons, on_append, on_map, map_member}
-use Rattle.tcc.specs.Score.{parts_of, procedures_of}
+use Rattle.tcc.specs.Score.{tokens_of, parts_of, procedures_of}
 use Rattle.tcc.specs.declared.Agent.{Agent}
-use Rattle.draft_language.specs.Draft.{Draft, draft_agent_at, root_of, LawfulDraft}
-use Rattle.draft_language.proofs.Whens.{when_is, whens_many, agents_most, written_lower, watch_known, body_lower}
+use Rattle.tcc.proofs.Multiset.{part_lower}
+use Rattle.draft_language.specs.Draft.{Draft, draft_agent_at, root_of, as_when, whens, LawfulDraft}
+use Rattle.draft_language.proofs.Whens.{when_is}
 use Rattle.draft_language.specs.declared.DraftAgent.{DraftAgent}
 use Rattle.draft_language.specs.declared.DraftAgent.TheVariants.{Plain, Watch}
 use Rattle.draft_pairs.specs.TokenSets.{holds, with}
@@ -40,6 +43,12 @@ use Rattle.draft_pairs.specs.Pairs.{pair, number_in, set_in}
 use Rattle.draft_plain.specs.Led.{Led, first, on}
 use Rattle.draft_plain.specs.Places.{procedure_at, target_within, target, agent_leads, leads_to}
 use Rattle.draft_pairs.proofs.TokenSets.{with_bound, number_pair, set_pair}
+
+body_lower : (d : Draft) → LawfulDraft d → (i : ℕ) {t b : ℕ} → draft_agent_at d i ≡ Watch t b → b < i
+body_lower d law i {t} {b} e = part_lower (whens d) law i (when_is d i e) b (mathlib.Core.List.Memᴰ.head refl)
+
+watch_known : (d : Draft) → LawfulDraft d → (i : ℕ) {t b : ℕ} → draft_agent_at d i ≡ Watch t b → t < d.tokens
+watch_known d law i {t} e = law.tokens_known i t (subst (λ a. Memᴰ t (tokens_of a)) (sym (when_is d i e)) (mathlib.Core.List.Memᴰ.head refl))
 
 -- a turn of `target_within`, over any agent in place of agent i
 abbrev goes_on : Draft → ℕ → ℕ → ℕ → DraftAgent → ℕ
@@ -132,10 +141,13 @@ module _ (d : Draft) where
   PlaceLed (procedure p set) = Led d (pair (procedure_at p) set)
 
 module _ (d : Draft) (law : LawfulDraft d) where
+  pub agents_most : length d.agents ≤ 1024
+  agents_most = omega (arith, law.agents_at_most, length-map d.agents as_when)
+
   stands_bound : {x : Place} → Stands d x → Bound d x
   stands_bound start = (pow_pos d.tokens, law.some_roots)
-  stands_bound (root {p = p} s) = ((stands_bound s).0, omega (arith, law.roots_known p (stands_bound s).1, whens_many d))
-  stands_bound (part {i = i} {b = b} s e m) = ((stands_bound s).0, omega (arith, written_lower d law i e b m, (stands_bound s).1))
+  stands_bound (root {p = p} s) = ((stands_bound s).0, omega (arith, law.roots_known p (stands_bound s).1, length-map d.agents as_when))
+  stands_bound (part {i = i} {b = b} s e m) = ((stands_bound s).0, omega (arith, part_lower (whens d) law i (when_is d i e) b m, (stands_bound s).1))
   stands_bound (called {i = i} {p = p} s e m) = ((stands_bound s).0, law.procedures_known i p (subst (λ a. Memᴰ p (procedures_of a)) (sym (when_is d i e)) m))
   stands_bound (watched {i = i} {t = t} {set = set} s e) = (with_bound d.tokens t set (watch_known d law i e) (stands_bound s).0, omega (arith, body_lower d law i e, (stands_bound s).1))
 
@@ -157,7 +169,7 @@ module _ (d : Draft) (law : LawfulDraft d) where
   leads_stand : (k : ℕ) → PairStands d k → Within (PairStands d) (leads_to d k)
   leads_stand k (inl (a, s)) =
       let set = set_in k in
-      let low : number_in k < 1024 = omega (arith, a.known, agents_most d law) in
+      let low : number_in k < 1024 = omega (arith, a.known, agents_most) in
       let parts : Within (PairStands d) (map (λ b. target d b set) (parts_of a.written)) = on_map (PairStands d) (λ b. target d b set) (parts_of a.written) (λ b m. inl (target_stands b set (part s a.is_written m))) in
       let calls : Within (PairStands d) (map (λ p. pair (procedure_at p) set) (procedures_of a.written)) = on_map (PairStands d) (λ p. pair (procedure_at p) set) (procedures_of a.written) (λ p m. inr (procedure_stands p set (called s a.is_written m))) in
       rw (leads_agent d k refl refl low a.is_written) (on_append {P = PairStands d} (map (λ b. target d b set) (parts_of a.written)) parts calls)
@@ -171,7 +183,7 @@ module _ (d : Draft) (law : LawfulDraft d) where
   agent_leads_lem {i} {set} s e =
       let (below, known) = stands_bound s in
       let (n, u) = pair_apart i set below in
-      leads_agent d (pair i set) u n (omega (arith, agents_most d law)) e
+      leads_agent d (pair i set) u n (omega (arith, agents_most)) e
 
   stands_led : {x : Place} → Stands d x → PlaceLed d x
   stands_led start = first

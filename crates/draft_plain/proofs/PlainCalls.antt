@@ -21,8 +21,7 @@ use Rattle.tcc.specs.declared.Agent.{Agent}
 use Rattle.tcc.specs.declared.Agent.TheVariants.{Skip, Abort, Tell, Parallel, When, Next, Unless, Call}
 use Rattle.tcc.proofs.Multiset.{part_lower}
 use Rattle.tcc.proofs.Unguarded.{CallsKnown, leads_known}
-use Rattle.draft_language.specs.Draft.{Draft, draft_agent_at, root_of, whens, LawfulDraft}
-use Rattle.draft_language.proofs.Whens.{when_is}
+use Rattle.draft_language.specs.Draft.{Draft, draft_agent_at, root_of, as_when, whens, LawfulDraft}
 use Rattle.draft_language.specs.declared.DraftAgent.{DraftAgent}
 use Rattle.draft_language.specs.declared.DraftAgent.TheVariants.{Plain, Watch}
 use Rattle.draft_pairs.specs.TokenSets.{with}
@@ -32,7 +31,7 @@ use Rattle.draft_pairs.proofs.TokenSets.{with_bound, number_pair, set_bound}
 use Rattle.draft_pairs.proofs.Rising.{index_at}
 use Rattle.draft_plain.proofs.Places.{target_plain, target_watch}
 use Rattle.draft_plain.proofs.Copying.{PlacesFit}
-use Rattle.draft_plain.proofs.PlainPairs.{led_procedure, procedure_led, part_listed, call_listed, root_listed}
+use Rattle.draft_plain.proofs.PlainPairs.{when_at, led_procedure, procedure_led, part_listed, call_listed, root_listed}
 use Rattle.draft_plain.proofs.PlainScore.{agents_in, procedures_in, score_in, place_of, agent_by, roots_length, root_at, on_plain_agents}
 
 module _ (d : Draft) (law : LawfulDraft d) where
@@ -43,7 +42,7 @@ module _ (d : Draft) (law : LawfulDraft d) where
       go : (w : DraftAgent) → draft_agent_at d i ≡ w → ((j s : ℕ) → j < n → s < 2 ^ 256 → Leads (whens d) (number_in (target d j s)) q → Leads (whens d) j q) → Leads (whens d) i q
       go (Plain a) e on = subst (λ j. Leads (whens d) j q) (ap number_in (target_plain d i set a e) ∙ number_pair i set bound) l
       go (Watch t b) e on =
-          let written : agent_at (whens d) i ≡ When t b = when_is d i e in
+          let written : agent_at (whens d) i ≡ When t b = when_at d i ∙ ap as_when e in
           let lower = part_lower (whens d) law i written b (Memᴰ.head refl) in
           let known = law.tokens_known i t (subst⁻¹ (λ a. Memᴰ t (tokens_of a)) written (Memᴰ.head refl)) in
           by_body written (on b (with t set) (omega arith) (with_bound 256 t set (omega (arith, law.tokens_at_most)) bound) (subst (λ k. Leads (whens d) (number_in k) q) (target_watch d law i set t b e) l))
@@ -87,11 +86,11 @@ module _ (d : Draft) (law : LawfulDraft d) where
       unguarded Skip e = tt
       unguarded Abort e = tt
       unguarded (Tell t) e = tt
-      unguarded (Parallel a b) e = (a, b, when_is d (number_in k) e, part_reads e a (Memᴰ.head refl), part_reads e b (Memᴰ.tail (Memᴰ.head refl)))
-      unguarded (When t b) e = (b, when_is d (number_in k) e, part_reads e b (Memᴰ.head refl))
+      unguarded (Parallel a b) e = (a, b, when_at d (number_in k) ∙ ap as_when e, part_reads e a (Memᴰ.head refl), part_reads e b (Memᴰ.tail (Memᴰ.head refl)))
+      unguarded (When t b) e = (b, when_at d (number_in k) ∙ ap as_when e, part_reads e b (Memᴰ.head refl))
       unguarded (Next b) e = either (Unguarded (number_in k)) (eqb (set_in k) 0) tt tt
       unguarded (Unless t b) e = tt
-      unguarded (Call p) e = when_is d (number_in k) e ∙ ap Call (sym (call_read e))
+      unguarded (Call p) e = when_at d (number_in k) ∙ ap as_when e ∙ ap Call (sym (call_read e))
 
     unguarded_at : (i : ℕ) → Unguarded (agent_of i) (agent_at (score_in d) i)
     unguarded_at = on_plain_agents d law (λ i a. Unguarded (agent_of i) a) (λ i. tt) (λ k m a e. subst⁻¹ (λ j. Unguarded (number_in j) (agent_by d (set_in k) a)) (index_at k (agents_in d) m) (unguarded k m a e))

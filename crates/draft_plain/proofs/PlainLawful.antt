@@ -2,11 +2,11 @@
 --     agent_tokens, agent_parts, agent_calls, root_below      what its agents and roots name
 --     conclusion_below, premises_below                        what its rules name
 --     plain_lawful                                            the claim
---     RuleFormed, plain_formed                                    its rules have no premise or two, if the draft's have
+--     Formed, plain_formed                                    its rules have no premise or two, if the draft's have
 use mathlib.Core.Path.{◌≡◌, refl, ap, subst, subst⁻¹}
 use mathlib.Core.List.Memᴰ
 use mathlib.Core.List.{[], ◌∷◌, Memᴰ}
-use mathlib.Core.Logic.{inr}
+use mathlib.Core.Logic.{◌⊎◌, inr}
 use Prim.Native.Nat.{ℕ, ◌+◌, ◌-◌, ◌<◌, ◌≤◌}
 use native.Mathlib.Omega.{arith}
 use lib.Dec.{eqb, lit<}
@@ -15,13 +15,13 @@ use borrow.Author.Tests.{eqb-false}
 use Rattle.laws.proofs.Booleans.{by_test, either}
 use Rattle.laws.proofs.Lists.{entry_member}
 use Rattle.laws.proofs.Sets.{Within, on_cons, on_append}
-use Rattle.tcc.specs.Score.{tokens_of, parts_of, procedures_of, RuleFormed}
+use Rattle.tcc.specs.Closure.{Rule}
+use Rattle.tcc.specs.Score.{tokens_of, parts_of, procedures_of}
 use Rattle.tcc.specs.Score as plain
 use Rattle.tcc.specs.Lawful.{Lawful}
 use Rattle.tcc.specs.declared.Agent.{Agent}
 use Rattle.tcc.specs.declared.Agent.TheVariants.{Skip, Abort, Tell, Parallel, When, Next, Unless, Call}
 use Rattle.draft_language.specs.Draft.{Draft, draft_agent_at, root_of, as_when, LawfulDraft}
-use Rattle.draft_language.proofs.Whens.{token_known}
 use Rattle.draft_language.specs.declared.DraftAgent.TheVariants.{Plain}
 use Rattle.draft_pairs.specs.TokenSets.{with, members}
 use Rattle.draft_pairs.specs.Pairs.{pair, number_in, set_in, index_of}
@@ -32,7 +32,7 @@ use Rattle.draft_pairs.proofs.TokenSets.{holds_member, member_holds, members_non
 use Rattle.draft_pairs.proofs.Rising.{index_below, index_order}
 use Rattle.draft_plain.specs.Led.{first}
 use Rattle.draft_plain.proofs.Copying.{PlacesFit}
-use Rattle.draft_plain.proofs.PlainPairs.{agent_led, procedure_listed, part_listed, part_before, call_listed, root_listed}
+use Rattle.draft_plain.proofs.PlainPairs.{written_tokens, agent_led, procedure_listed, part_listed, part_before, call_listed, root_listed}
 use Rattle.draft_plain.proofs.AskedLaws.{with_holds, asked_listed, asked_token_below, asks_known, asked_known}
 use Rattle.draft_plain.proofs.PlainScore.{agents_in, procedures_in, sets_in, score_in, place_of, agent_by, agents_rising, agents_length, roots_length, root_at, on_plain_agents, on_member_rules, Sizes, fits_sizes, places_fit}
 use Rattle.draft_plain.proofs.PlainCalls.{plain_circles}
@@ -47,12 +47,12 @@ module _ (d : Draft) (law : LawfulDraft d) where
 
     unless_below : {t b : ℕ} → draft_agent_at d (number_in k) ≡ Plain (Unless t b) → asked_token d.tokens (sets_in d) (with t (set_in k)) < (score_in d).tokens
     unless_below {t} {b} e =
-        let h = token_known d law (number_in k) e t (Memᴰ.head refl) in
+        let h = written_tokens d law (number_in k) e t (Memᴰ.head refl) in
         let small : t < 256 = omega (arith, law.tokens_at_most) in
         asked_below e (Memᴰ.head refl) (λ none. Memᴰ.not-nil (subst (λ l. Memᴰ t l) none (holds_member (with t (set_in k)) small (with_holds t (set_in k)))))
 
     old_below : {a : Agent} → draft_agent_at d (number_in k) ≡ Plain a → Within (λ t. t < (score_in d).tokens) (tokens_of a)
-    old_below e t n = omega (arith, token_known d law (number_in k) e t n)
+    old_below e t n = omega (arith, written_tokens d law (number_in k) e t n)
 
     agent_tokens : (a : Agent) → draft_agent_at d (number_in k) ≡ Plain a → Within (λ t. t < (score_in d).tokens) (tokens_of (agent_by d (set_in k) a))
     agent_tokens Skip e = λ t n. elim n [ ]
@@ -143,6 +143,10 @@ pub plain_lawful : PlainLawful
 unfolding plain_of
 plain_lawful d law e = lawful_by d law (fits_sizes (score_in d) e)
 
-pub plain_formed : (d : Draft) → Within RuleFormed d.rules → Within RuleFormed (plain_of d).rules
+-- no premise, or two
+abbrev pub Formed : Rule ℕ → Type 0
+Formed r = (r.premises ≡ []) ⊎ ((p : ℕ) × (q : ℕ) × (r.premises ≡ p ∷ q ∷ []))
+
+pub plain_formed : (d : Draft) → Within Formed d.rules → Within Formed (plain_of d).rules
 unfolding plain_of
-plain_formed d formed = on_append d.rules formed (on_member_rules RuleFormed d.tokens (sets_in d) (λ set m c n k l. inr (m, m, refl)))
+plain_formed d formed = on_append d.rules formed (on_member_rules Formed d.tokens (sets_in d) (λ set m c n k l. inr (m, m, refl)))

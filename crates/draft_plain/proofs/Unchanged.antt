@@ -1,5 +1,5 @@
 -- A score without watches, all of whose agents and procedures lie on paths from procedure 0, is its own plain score.
---     mapped_at, mapped                 of lists: the images of the numbers below n
+--     keep_all, mapped_at, mapped       of lists: a test that all pass; the images of the numbers below n
 --     asks_none                         under no token no agent asks for a set of several
 --     bare_agents, bare_procedures      the pairs of the first n agents and procedures with no token
 --     pairs_rise, pairs_agents, pairs_procedures      as one list
@@ -9,7 +9,7 @@
 --     agents_kept, roots_kept, sets_none      so nothing changes
 --     unchanged                         the claim
 use mathlib.Core.Path.{◌≡◌, refl, sym, ap, ap₂, subst, subst⁻¹, ◌∙◌}
-use mathlib.Core.Bool.{false}
+use mathlib.Core.Bool.{Bool, true, false}
 use mathlib.Core.List.Memᴰ
 use mathlib.Core.List.{List, [], ◌∷◌, ◌++◌, map, append-nil, Memᴰ}
 use Prim.Native.Nat.{ℕ, ◌-◌, ◌<◌, ◌≤◌}
@@ -19,16 +19,15 @@ use lib.Dec.{lit<}
 use lib.ListN.{length, get_or, length-map}
 use lib.Seq.{ext_get_or}
 use borrow.Author.Tests.{lt-ltb, le-ltb, le-leb, lt-leb}
-use Rattle.laws.specs.Sets.{below}
+use Rattle.laws.specs.Sets.{below, keep}
 use Rattle.laws.specs.Rising.{Rising}
 use Rattle.laws.proofs.Lists.{map_at}
-use Rattle.laws.proofs.Sets.{Within, Among, on_cons, on_append, on_map, map_member, keep_append, keep_none, keep_all, below_lt, lt_below, below_length, below_at}
+use Rattle.laws.proofs.Sets.{Within, Among, on_cons, on_append, on_map, map_member, keep_append, keep_none, below_lt, lt_below, below_length, below_at}
 use Rattle.laws.proofs.Rising.{rising_append, rising_images, below_rising}
 use Rattle.tcc.specs.Score.{agent_at, tokens_of, parts_of, procedures_of}
 use Rattle.tcc.specs.declared.Agent.{Agent}
 use Rattle.tcc.specs.declared.Agent.TheVariants.{Skip, Abort, Tell, Parallel, When, Next, Unless, Call}
 use Rattle.draft_language.specs.Draft.{Draft, draft_agent_at, root_of, as_when, whens, LawfulDraft}
-use Rattle.draft_language.proofs.Whens.{when_at, agents_most, token_known, written_lower}
 use Rattle.draft_language.specs.declared.DraftAgent.{DraftAgent}
 use Rattle.draft_language.specs.declared.DraftAgent.TheVariants.{Plain, Watch}
 use Rattle.draft_pairs.specs.Pairs.{pair, number_in, set_in, index_of}
@@ -39,9 +38,14 @@ use Rattle.draft_plain.specs.Unchanged.{WithoutWatches, AllOnPaths, Unchanged}
 use Rattle.draft_pairs.proofs.TokenSets.{number_pair, set_pair, pair_before}
 use Rattle.draft_pairs.proofs.Rising.{at_index}
 use Rattle.draft_plain.specs.Led.{Led}
-use Rattle.draft_plain.proofs.Places.{target_plain, leads_agent, leads_procedure, stands_led_agent, stands_led_procedure}
+use Rattle.draft_plain.proofs.Places.{target_plain, stands_led_agent, stands_led_procedure}
 use Rattle.draft_plain.proofs.Copying.{Closed, PlacesFit, fit_short, places_unique}
+use Rattle.draft_plain.proofs.PlainPairs.{when_at, leads_agent, leads_procedure, draft_agents, written_parts, written_tokens}
 use Rattle.draft_plain.proofs.AskedLaws.{asked_none, none_several, one_several, asked_one}
+
+keep_all : {A : Type 0} (f : A → Bool) (l : List A) → Within (λ x. f x ≡ true) l → keep f l ≡ l
+keep_all f [] h = refl
+keep_all f (x ∷ l) h = let p : f x ≡ true = h x (Memᴰ.head refl) in rw p (ap (λ k. x ∷ k) (keep_all f l (λ y m. h y (Memᴰ.tail m))))
 
 -- the images of the numbers below n
 mapped_at : {A : Type 0} (g : ℕ → A) (n i : ℕ) (z : A) → i < n → get_or (map g (below n)) i z ≡ g i
@@ -143,17 +147,18 @@ module _ (d : Draft) (law : LawfulDraft d) (plainly : WithoutWatches d) where
     written = as_when (draft_agent_at d i)
 
     part_known : Within (λ b. b < length d.agents) (parts_of written)
-    part_known b m = omega (arith, written_lower d law i (written_plain i) b m)
+    part_known b m = omega (arith, written_parts d law i (written_plain i) b m)
 
     token_small : Within (λ t. t < 256) (tokens_of written)
-    token_small t m = omega (arith, token_known d law i (written_plain i) t m, law.tokens_at_most)
+    token_small t m = omega (arith, written_tokens d law i (written_plain i) t m, law.tokens_at_most)
 
     call_known : Within (λ p. p < length d.roots) (procedures_of written)
     call_known p m = law.procedures_known i p (subst⁻¹ (λ a. Memᴰ p (procedures_of a)) (when_at d i) m)
 
     agent_leads_lem : leads_to d (pair i 0) ≡ agent_leads d 0 (Plain written)
     agent_leads_lem =
-        leads_agent d (pair i 0) (bare_set i) (bare_number i) (omega (arith, agents_most d law)) (written_plain i)
+        leads_agent d (pair i 0) (omega (arith, bare_number i, draft_agents d law)) (ap (draft_agent_at d) (bare_number i) ∙ written_plain i)
+        ∙ ap (λ set. agent_leads d set (Plain written)) (bare_set i)
 
     agent_closed : Among (leads_to d (pair i 0)) (agent_pairs ++ procedure_pairs)
     agent_closed =
@@ -164,7 +169,7 @@ module _ (d : Draft) (law : LawfulDraft d) (plainly : WithoutWatches d) where
 
   procedure_closed : (p : ℕ) → p < length d.roots → Among (leads_to d (pair (procedure_at p) 0)) (agent_pairs ++ procedure_pairs)
   procedure_closed p h =
-      let leads : leads_to d (pair (procedure_at p) 0) ≡ target d (root_of d p) 0 ∷ [] = leads_procedure d (pair (procedure_at p) 0) (bare_set (procedure_at p)) p (bare_number (procedure_at p)) in
+      let leads : leads_to d (pair (procedure_at p) 0) ≡ target d (root_of d p) 0 ∷ [] = leads_procedure d (pair (procedure_at p) 0) (omega (arith, bare_number (procedure_at p))) ∙ ap₂ (λ q set. target d (root_of d q) set ∷ []) (procedure_bare p) (bare_set (procedure_at p)) in
       subst⁻¹ (λ l. Among l (agent_pairs ++ procedure_pairs)) leads (on_cons (subst⁻¹ There (target_bare (root_of d p)) (agent_there (root_known p h))) (λ k m. elim m [ ]))
 
   pairs_closed : Closed d (agent_pairs ++ procedure_pairs)
@@ -191,12 +196,12 @@ module _ (d : Draft) (law : LawfulDraft d) (plainly : WithoutWatches d) where
   pairs_fit : PlacesFit (agent_pairs ++ procedure_pairs)
   pairs_fit =
       record {
-        agents_fit = omega (arith, ap length (pairs_agents (length d.agents) (length d.roots) (agents_most d law)), agents_count, agents_most d law);
-        procedures_fit = omega (arith, ap length (pairs_procedures (length d.agents) (length d.roots) (agents_most d law)), procedures_count, law.roots_at_most);
+        agents_fit = omega (arith, ap length (pairs_agents (length d.agents) (length d.roots) (draft_agents d law)), agents_count, draft_agents d law);
+        procedures_fit = omega (arith, ap length (pairs_procedures (length d.agents) (length d.roots) (draft_agents d law)), procedures_count, law.roots_at_most);
       }
 
   pairs_all : AllOnPaths d → places d ≡ agent_pairs ++ procedure_pairs
-  pairs_all paths = places_unique d (agent_pairs ++ procedure_pairs) (pairs_rise (length d.agents) (length d.roots) (agents_most d law)) (pairs_led paths) pairs_closed (fit_short (agent_pairs ++ procedure_pairs) pairs_fit)
+  pairs_all paths = places_unique d (agent_pairs ++ procedure_pairs) (pairs_rise (length d.agents) (length d.roots) (draft_agents d law)) (pairs_led paths) pairs_closed (fit_short (agent_pairs ++ procedure_pairs) pairs_fit)
 
   agent_index : (b : ℕ) → b < length d.agents → index_of (pair b 0) agent_pairs ≡ b
   agent_index b h =
@@ -251,7 +256,7 @@ module _ (d : Draft) (law : LawfulDraft d) (plainly : WithoutWatches d) where
 pub unchanged : Unchanged
 unfolding plain_of
 unchanged d law plainly paths =
-    let few = agents_most d law in
+    let few = draft_agents d law in
     ap (λ l. plain_by d (agent_places l) (procedure_places l) (asked_sets d (agent_places l))) (pairs_all d law plainly paths)
     ∙ ap₂ (λ agents procedures. plain_by d agents procedures (asked_sets d agents)) (pairs_agents (length d.agents) (length d.roots) few) (pairs_procedures (length d.agents) (length d.roots) few)
     ∙ ap (plain_by d (bare_agents (length d.agents)) (bare_procedures (length d.roots))) (sets_none d law plainly)

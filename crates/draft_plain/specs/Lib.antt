@@ -4,7 +4,4 @@ pub mod Plain
 pub mod Led
 pub mod Exact
 pub mod Limits
-pub mod OnPaths
-pub mod StoppedCopy
-pub mod ActsByHand
 pub mod Unchanged

@@ -1,5 +1,4 @@
--- A plain score does not fit exactly if one of the four counts passes its limit, the counts told by the paths and not
--- by the copying.
+-- "16 is answered exactly if one of the four counts passes its limit", the counts told by the paths and not by the copying.
 --     Different      no element of a list stands in it twice
 --     MoreThan       there are more than n different things of a kind
 --     AgentPair, ProcedurePair    an agent other than a watch, a procedure, with a set that it stands under
@@ -35,10 +34,8 @@ abbrev pub ProcedurePair : Draft → Place → Type 0
 ProcedurePair d x = (p : ℕ) × (set : ℕ) × (x ≡ procedure p set) × Stands d x
 
 pub data Asked (d : Draft) : ℕ → Type 0 where
-  by_next : {i b set : ℕ} → Stands d (agent i set) → draft_agent_at d i ≡ Plain (Next b) → several set ≡ true →
-      Asked d set
-  by_unless : {i t b set : ℕ} → Stands d (agent i set) → draft_agent_at d i ≡ Plain (Unless t b) →
-      several (with t set) ≡ true → Asked d (with t set)
+  by_next : {i b set : ℕ} → Stands d (agent i set) → draft_agent_at d i ≡ Plain (Next b) → several set ≡ true → Asked d set
+  by_unless : {i t b set : ℕ} → Stands d (agent i set) → draft_agent_at d i ≡ Plain (Unless t b) → several (with t set) ≡ true → Asked d (with t set)
 
 pub record Asking : Type 0 where
   pub set : ℕ
@@ -48,10 +45,7 @@ abbrev pub AskedMember : Draft → Asking → Type 0
 AskedMember d x = Asked d x.set × (holds x.set x.token ≡ true)
 
 abbrev pub Passes : Draft → Type 0
-Passes d =
-    MoreThan most_agents 0 (AgentPair d)
-    ⊎ (MoreThan most_procedures 0 (ProcedurePair d)
-    ⊎ (MoreThan most_tokens d.tokens (Asked d) ⊎ MoreThan most_rules (length d.rules) (AskedMember d)))
+Passes d = MoreThan most_agents 0 (AgentPair d) ⊎ (MoreThan most_procedures 0 (ProcedurePair d) ⊎ (MoreThan most_tokens d.tokens (Asked d) ⊎ MoreThan most_rules (length d.rules) (AskedMember d)))
 
 abbrev pub Limits : Type 0
 Limits = (d : Draft) → LawfulDraft d → (fits (plain_of d) ≡ false → Passes d) × (Passes d → fits (plain_of d) ≡ false)

@@ -1,8 +1,7 @@
 -- The pairs that the plain score is made of, computed: an agent other than a watch, or a procedure, with a set that it
 -- stands under.
 --     procedure_at          a procedure's number in a pair: procedures come after agents, whose numbers are lower
---     target                a reference to a watch goes on to its body with the token added, through several watches if
---                           need be
+--     target                "a reference to a watch goes on to its body with the token added, through several watches if need be"
 --     leads_to              the pairs that the references and calls of a pair lead to
 --     grown                 the pairs of a list and all that they lead to
 --     places                the pairs, rising, from procedure 0 under no token
@@ -23,21 +22,17 @@ procedure_at p = most_agents + p
 -- n bounds the watches passed: a body has a lower number than its agent
 abbrev pub target_within : Draft → ℕ → ℕ → ℕ → ℕ
 target_within d zero i set = pair i set
-target_within d (suc n) i set =
-    elim (draft_agent_at d i) [ Plain a ↦ pair i set | Watch t b ↦ target_within d n b (with t set) ]
+target_within d (suc n) i set = elim (draft_agent_at d i) [ Plain a ↦ pair i set | Watch t b ↦ target_within d n b (with t set) ]
 
 unfoldable pub target : Draft → ℕ → ℕ → ℕ
 target d i set = target_within d (suc i) i set
 
 abbrev pub agent_leads : Draft → ℕ → DraftAgent → List ℕ
-agent_leads d set (Plain a) =
-    map (λ b. target d b set) (parts_of a) ++ map (λ p. pair (procedure_at p) set) (procedures_of a)
+agent_leads d set (Plain a) = map (λ b. target d b set) (parts_of a) ++ map (λ p. pair (procedure_at p) set) (procedures_of a)
 agent_leads d set (Watch t b) = []
 
 unfoldable pub leads_to : Draft → ℕ → List ℕ
-leads_to d k =
-    cond (ltb (number_in k) most_agents) (agent_leads d (set_in k) (draft_agent_at d (number_in k)))
-    (target d (root_of d (number_in k - most_agents)) (set_in k) ∷ [])
+leads_to d k = cond (ltb (number_in k) most_agents) (agent_leads d (set_in k) (draft_agent_at d (number_in k))) (target d (root_of d (number_in k - most_agents)) (set_in k) ∷ [])
 
 abbrev pub all_lead : Draft → List ℕ → List ℕ
 all_lead d [] = []

@@ -1,11 +1,9 @@
 -- The plain score of a draft.
---     asks_for       the set that an agent under a set asks for at quiet: "A next under a set that is not empty becomes
---                    an unless, and an unless also asks for the set"
---     asked_sets     "Each distinct set of two or more tokens so asked", rising
---     asked_token    a set of one token is asked for directly, a larger one by its new token: from T on, "new tokens by
---                    set"
---     member_rules   "a one-premise rule from each member", both premise fields the member, "by new token and then
---                    member"
+--     asks_for       the set that an agent under a set asks for at quiet: "a next under a set that is not empty becomes an
+--                    unless on that set; an unless asks for its own token together with the set"
+--     asked_sets     "each distinct set of two or more that is so asked", rising
+--     asked_token    "a set of one token is asked for directly"; a larger one by its new token, "from T on by set"
+--     member_rules   "a rule from each member (both premise fields the member)", by new token and then member
 --     plain_agent    the agent of a pair
 --     plain_by       the plain score, given the pairs and the asked sets
 --     plain_of        the plain score
@@ -48,8 +46,7 @@ asked_token tokens sets set = cond (several set) (tokens + index_of set sets) (g
 
 abbrev pub member_rules : ℕ → List ℕ → List (Rule ℕ)
 member_rules u [] = []
-member_rules u (set ∷ sets) =
-    map (λ m. record { premises = m ∷ m ∷ []; conclusion = u }) (members set) ++ member_rules (suc u) sets
+member_rules u (set ∷ sets) = map (λ m. record { premises = m ∷ m ∷ []; conclusion = u }) (members set) ++ member_rules (suc u) sets
 
 module _ (d : Draft) (agents procedures sets : List ℕ) where
   -- where the agent that a reference leads to stands
@@ -62,8 +59,7 @@ module _ (d : Draft) (agents procedures sets : List ℕ) where
   plain_agent set (Tell t) = Tell t
   plain_agent set (Parallel a b) = Parallel (stands_at set a) (stands_at set b)
   plain_agent set (When t b) = When t (stands_at set b)
-  plain_agent set (Next b) =
-      cond (eqb set 0) (Next (stands_at set b)) (Unless (asked_token d.tokens sets set) (stands_at set b))
+  plain_agent set (Next b) = cond (eqb set 0) (Next (stands_at set b)) (Unless (asked_token d.tokens sets set) (stands_at set b))
   plain_agent set (Unless t b) = Unless (asked_token d.tokens sets (with t set)) (stands_at set b)
   plain_agent set (Call p) = Call (index_of (pair (procedure_at p) set) procedures)
 
@@ -82,6 +78,4 @@ unfoldable pub plain_of : Draft → Score
 plain_of d = plain_by d (agent_places (places d)) (procedure_places (places d)) (asked_sets d (agent_places (places d)))
 
 abbrev pub fits : Score → Bool
-fits sc =
-    leb sc.tokens most_tokens && leb (length sc.agents) most_agents && leb (length sc.roots) most_procedures
-    && leb (length sc.rules) most_rules
+fits sc = leb sc.tokens most_tokens && leb (length sc.agents) most_agents && leb (length sc.roots) most_procedures && leb (length sc.rules) most_rules

@@ -2,8 +2,8 @@
 --     PlainLawful      a plain score that fits is lawful, so that the score check accepts its bytes
 --     WithoutWatches   no agent is a watch
 --     AllOnPaths       every agent and every procedure lies on a path from procedure 0
---     Unchanged        a score without watches, all of whose agents and procedures lie on paths from procedure 0, is
---                      its own plain score
+--     Unchanged        "a score without watches, all of whose agents and procedures lie on paths from procedure 0, is
+--                      returned" as it is
 use Rattle.std.specs.Prelude.{◌≡◌, true, ℕ, ◌<◌, length}
 use Rattle.tcc.specs.Lawful.{Lawful}
 use Rattle.draft_language.specs.Draft.{Draft, draft_agent_at, whens, LawfulDraft}

@@ -1,5 +1,4 @@
--- Contracts of inner functions: a table of pairs in rising order. Rows past those in use are the program's choice;
--- every choice has the same pairs in use and the same number of them.
+-- Contracts of inner functions: a table of pairs in rising order.
 --     keys           the pairs in use
 --     Placed         how many pairs stand before one
 --     Entered        what entering a pair leaves: the pair among the others, or no room for it
@@ -20,8 +19,7 @@ pub record Placed (l : List ℕ) (key at : ℕ) : Type 0 where
 pub record Entered (key count : ℕ) (before after : List (List ℕ)) (r : ℕ) : Type 0 where
   pub long : length after ≡ length before
   pub most : r ≤ most_pairs + 1
-  pub room : r ≤ most_pairs →
-      (keys r after ≡ insert key (keys count before)) × (r ≡ length (insert key (keys count before)))
+  pub room : r ≤ most_pairs → (keys r after ≡ insert key (keys count before)) × (r ≡ length (insert key (keys count before)))
   pub full : most_pairs < r → (count ≡ most_pairs) × (Memᴰ key (keys count before) → ⊥)
 
 pub record RoomMade (count at : ℕ) (before after : List (List ℕ)) : Type 0 where

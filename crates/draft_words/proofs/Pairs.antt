@@ -1,5 +1,5 @@
 -- The pairs of a draft that is gathered, by their places in the table, and what the plain score has of each.
---     copied_few, copied_many, procedures_many     how many agents and procedures it has
+--     agents_few, agents_many, procedures_many     how many agents and procedures it has
 --     agent_of_pair               the plain agent of a pair
 --     agent_entry, agent_here     of the first entries, each is a pair of an agent; its agent is the plain score's
 --     AgentFits, agent_fits       what such an agent names fits into a word
@@ -28,15 +28,15 @@ use Rattle.draft_pairs.specs.Rows.{row_value}
 use Rattle.draft_table.proofs.Tables.{keys_length, keys_at}
 use Rattle.draft_plain.specs.Places.{target, places}
 use Rattle.draft_plain.specs.Plain.{agent_in, plain_of}
-use Rattle.draft_plain.proofs.Copying.{places_rising}
+use Rattle.draft_plain.proofs.Copying.{PlacesFit, places_rising}
 use Rattle.draft_plain.proofs.PlainPairs.{procedure_led, led_procedure, root_listed}
-use Rattle.draft_plain.proofs.PlainScore.{agent_by, root_by, root_at, agents_length, roots_length}
+use Rattle.draft_plain.proofs.PlainScore.{agent_by, root_by, fits_sizes, places_fit, root_at, agents_length, roots_length}
 use Rattle.draft_plain.proofs.PlainLawful.{plain_lawful}
 use Rattle.draft_format.specs.DraftFile.{decode_draft}
 use Rattle.draft_format.proofs.Draft.{accepted_whole}
 use Rattle.draft_gathering.specs.declared.Counts.{Counts}
 use Rattle.draft_gathering.specs.Gathered.{Gathered, agents_in, procedures_in}
-use Rattle.draft_words.proofs.Standing.{kinds_split, places_few}
+use Rattle.draft_words.proofs.Standing.{kinds_split}
 
 pub record AgentFits (a : Agent) : Type 0 where
   pub tokens : Within (λ t. t < 256) (tokens_of a)
@@ -76,12 +76,12 @@ module _ {s : List ℕ} {n : Counts} {table sets : List (List ℕ)} (g : Gathere
   lawful : Lawful (plain_of draft)
   lawful = plain_lawful draft g.translatable.lawful g.fitting
 
-  pub copied_many : length (plain_of draft).agents ≡ n.copied
+  pub agents_many : length (plain_of draft).agents ≡ n.copied
   unfolding plain_of
-  copied_many = agents_length draft ∙ sym g.copied_are
+  agents_many = agents_length draft ∙ sym g.copied_are
 
-  pub copied_few : n.copied ≤ 1024
-  copied_few = omega (arith, copied_many, lawful.agents_at_most)
+  pub agents_few : n.copied ≤ 1024
+  agents_few = omega (arith, agents_many, lawful.agents_at_most)
 
   pub procedures_many : n.copied + length (plain_of draft).roots ≡ n.pairs
   unfolding plain_of
@@ -101,7 +101,7 @@ module _ {s : List ℕ} {n : Counts} {table sets : List (List ℕ)} (g : Gathere
     pub agent_fits : AgentFits (agent_at (plain_of draft) k)
     agent_fits = record {
       tokens = λ t m. omega (arith, lawful.tokens_known k t m, lawful.tokens_at_most);
-      parts = λ b m. omega (arith, lawful.parts_lower k b m, copied_few);
+      parts = λ b m. omega (arith, lawful.parts_lower k b m, agents_few);
       procedures = λ p m. omega (arith, lawful.procedures_known k p m, lawful.roots_at_most);
     }
 
@@ -122,6 +122,10 @@ module _ {s : List ℕ} {n : Counts} {table sets : List (List ℕ)} (g : Gathere
     pub root_fits : plain.root_of (plain_of draft) k < 1024
     root_fits = omega (arith, lawful.roots_known k (omega (arith, procedures_many)), lawful.agents_at_most)
 
+  places_few : PlacesFit (places draft)
+  unfolding plain_of
+  places_few = places_fit draft (fits_sizes (plain_of draft) g.fitting)
+
   pub root_known : (v : ℕ) → Memᴰ v (procedures_in s) → RootKnown s n.agents v
   root_known v m =
       let law = g.translatable.lawful in
@@ -134,5 +138,5 @@ module _ {s : List ℕ} {n : Counts} {table sets : List (List ℕ)} (g : Gathere
         few = omega (arith, whole.roots_many);
         there = omega (arith, whole.enough, whole.roots_many, g.agents_are);
         known = omega (arith, law.roots_known (number_in v - 1024) few, length-map draft.agents as_when, whole.agents_many, g.agents_are);
-        stands = root_listed draft law (places_few g) v m;
+        stands = root_listed draft law places_few v m;
       }

@@ -1,23 +1,18 @@
 -- Where the pairs of a draft stand, and what an agent among them leads to and asks for. Of a rising list of pairs:
---     number_order, no_agents, kinds_split  pairs rise by their numbers: the agents come first, then the procedures
---     index_is, parts_length, agent_index, procedure_index
---                                           so where a pair stands among all tells where it stands among its kind
+--     kinds_split                           the agents come first, then the procedures
+--     agent_index, procedure_index          so where a pair stands among all tells where it stands among its kind
 -- of pairs that are gathered:
---     table_rises                           the table rises
---     placed_at, agent_stands, procedure_stands     the place of a pair in the table tells where it stands among its kind
---     places_few                            no more agents and procedures than fit
---     number_known, never_watch             the number of an agent's pair is one of the draft's agents, and no watch
---     tokens_same                           the tokens counted are the draft's
+--     table_rises, sets-rise                the two tables rise
+--     agent_stands, procedure_stands        the place of a pair in the table tells where it stands among its kind
 --     Listed                                an agent of a pair among those of agents, by its form
---     part_stands                           a body or half of it is the draft's, and what that leads to stands among the agents
---     call_few, call_stands                 a procedure that it calls is one of 64, and stands among the procedures
+--     tokens-few                            the tokens are few
+--     part_known, part_stands               a body or half of it is the draft's, and what that leads to stands among the agents
+--     call_few, call_stands                 a procedure that it calls is the draft's, and stands among the procedures
 --     token_few                             a token that it names is one of 256
---     asks_stands, asked_same               a set that it asks for: its tokens are the draft's, and one of several stands among
---                                           the sets; the token that is asked for it
---     Becomes, agent_becomes                what it is in the plain score, by its form
---     no_entry, none_empty, some_full       whether a set has tokens, by how many
+--     asks_known, asks_listed               the tokens of a set that it asks for are the draft's; a set of several stands among the sets
+--     agent_becomes                         what it is in the plain score, by its form
 --     next_stays, next_asks                 a next, by how many tokens its set has
---     unless_asked, unless_asks             an unless
+--     unless_asks                           an unless
 use mathlib.Core.Path.{◌≡◌, refl, sym, ap, ap₂, subst, subst⁻¹, subst₂, ◌∙◌}
 use mathlib.Core.Bool.{true, false}
 use mathlib.Core.List.{List, [], ◌∷◌, ◌++◌, Memᴰ}
@@ -32,7 +27,7 @@ use lib.Seq.{get_or-append-add}
 use Rattle.laws.specs.Rising.{Rising}
 use Rattle.laws.proofs.Booleans.{true_is_false, cond_true, cond_false}
 use Rattle.laws.proofs.Lists.{entry_member}
-use Rattle.laws.proofs.Sets.{Among, on_keep, keep_none, holds_none}
+use Rattle.laws.proofs.Sets.{Among, on_keep, keep_none}
 use Rattle.laws.proofs.Rising.{rising_above, rising_tail}
 use Rattle.tcc.specs.Score.{tokens_of, parts_of, procedures_of}
 use Rattle.tcc.specs.declared.Agent.{Agent}
@@ -41,10 +36,10 @@ use Rattle.words.specs.Word.{words}
 use Rattle.format.specs.Decode.{sizes}
 use Rattle.draft_language.specs.Draft.{Draft, draft_agent_at, as_when, LawfulDraft}
 use Rattle.draft_language.specs.declared.DraftAgent.TheVariants.{Plain, Watch}
-use Rattle.draft_language.proofs.Whens.{when_is, token_known, written_lower}
+use Rattle.draft_language.proofs.Whens.{when_is}
 use Rattle.draft_pairs.specs.TokenSets.{holds, with, members, several}
 use Rattle.draft_pairs.specs.Pairs.{pair, number_in, set_in, index_of}
-use Rattle.draft_pairs.proofs.TokenSets.{with_bound, member_holds, members_none, set_pair, set_bound, pair_before}
+use Rattle.draft_pairs.proofs.TokenSets.{holds_none, with_bound, member_holds, members_none, set_pair, set_bound, pair_before}
 use Rattle.draft_pairs.proofs.Rising.{index_below, index_at, at_index}
 use Rattle.draft_table.specs.Tables.{keys, Placed}
 use Rattle.draft_table.proofs.Tables.{placed_index}
@@ -52,7 +47,7 @@ use Rattle.draft_plain.specs.Places.{procedure_at, target, places, agent_places,
 use Rattle.draft_plain.specs.Plain.{asks_for, agent_in, asked_token, plain_agent, plain_of}
 use Rattle.draft_plain.proofs.Places.{KnownAgent}
 use Rattle.draft_plain.proofs.Copying.{PlacesFit, places_rising}
-use Rattle.draft_plain.proofs.PlainPairs.{agent_led, led_agent, part_listed, call_listed}
+use Rattle.draft_plain.proofs.PlainPairs.{agent_led, led_agent, written_parts, written_tokens, part_listed, call_listed}
 use Rattle.draft_plain.proofs.AskedLaws.{asked_rising, asked_listed, asks_known}
 use Rattle.draft_plain.proofs.PlainScore.{score_in, fits_sizes, places_fit}
 use Rattle.draft_format.specs.DraftFile.{decode_draft}
@@ -122,7 +117,7 @@ module _ {s : List ℕ} {n : Counts} {table sets : List (List ℕ)} (g : Gathere
       among_all : Among (procedures_in s) (places draft)
       among_all = on_keep (λ k. leb 1024 (number_in k)) (places draft) (λ k x t. x)
 
-  pub places_few : PlacesFit (places draft)
+  places_few : PlacesFit (places draft)
   unfolding plain_of
   places_few = places_fit draft (fits_sizes (score_in draft) g.fitting)
 
@@ -153,7 +148,7 @@ module _ {s : List ℕ} {n : Counts} {table sets : List (List ℕ)} {k : ℕ} {a
   part_stands b m = (
     h.gathered,
     (
-      omega (arith, written_lower (decode_draft s) law (number_in k) h.written b m, (number_known h.gathered h.listed refl).1, h.gathered.agents_are),
+      omega (arith, written_parts (decode_draft s) law (number_in k) h.written b m, (number_known h.gathered h.listed refl).1, h.gathered.agents_are),
       part_listed (decode_draft s) law (places_few h.gathered) k h.listed h.written m,
     ),
   )
@@ -166,7 +161,7 @@ module _ {s : List ℕ} {n : Counts} {table sets : List (List ℕ)} {k : ℕ} {a
     call_stands = call_listed (decode_draft s) law (places_few h.gathered) k h.listed h.written m
 
   pub token_few : (t : ℕ) → Memᴰ t (tokens_of a) → t < 256
-  token_few t m = omega (arith, token_known (decode_draft s) law (number_in k) h.written t m, law.tokens_at_most)
+  token_few t m = omega (arith, written_tokens (decode_draft s) law (number_in k) h.written t m, law.tokens_at_most)
 
   -- a set that it asks for, as `asked_token` wants it
   pub asks_stands : (set : ℕ) → Memᴰ set (asks_for (set_in k) a) →

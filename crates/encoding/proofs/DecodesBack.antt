@@ -15,10 +15,9 @@ use Prim.Native.Nat.{ℕ, ◌+◌, ◌-◌, ◌*◌, ◌^◌, ◌<◌, ◌≤◌
 use native.Mathlib.Omega.{arith}
 use borrow.Author.Tests.{lt-leb, le-ltb}
 use lib.ListN.{length, get_or, drop, length-append, length-map}
-use Rattle.laws.proofs.Lists.{place_member, on_places, on_entries}
-use Rattle.laws.proofs.Sets.{Within, on_cons, on_append, on_map, below_none}
+use Rattle.laws.proofs.Sets.{Within, on_cons, on_append, on_map}
 use Rattle.tcc.specs.Closure.{Rule}
-use Rattle.tcc.specs.Score.{Score, agent_at, root_of, tokens_of, parts_of, procedures_of, RuleFormed}
+use Rattle.tcc.specs.Score.{Score, agent_at, root_of, tokens_of, parts_of, procedures_of}
 use Rattle.tcc.specs.Lawful.{Lawful}
 use Rattle.tcc.specs.Unguarded.{circular}
 use Rattle.tcc.specs.declared.Agent.TheVariants.{Skip}
@@ -35,10 +34,10 @@ use Rattle.check_circles.specs.Circles.{circle_from}
 use Rattle.check_circles.proofs.Circle.{lowest_none}
 use Rattle.check_score.specs.Check.{verdict}
 use Rattle.bits.proofs.Bytes.{bytes_of_length, words_bytes}
-use Rattle.encoding.specs.Encode.{head_word, ports_word, agent_word, root_word, rule_word, score_words, score_bytes, DecodesBack}
+use Rattle.encoding.specs.Encode.{head_word, ports_word, agent_word, root_word, rule_word, score_words, score_bytes, RuleFormed, DecodesBack}
 use Rattle.encoding.proofs.WrittenWords.{Made, made_word, made_low, made_small, head_made, head_sizes, ports_made, ports_lowest, ports_highest, AgentFits, AgentRead, agent_read, root_made, RuleRead, rule_read}
-use Rattle.encoding.proofs.Lists.{map_back, InParts, in_parts}
-use Rattle.encoding.proofs.WordVerdicts.{length_fits, count_fits, agent_place_lem, root_place, rule_place, at_accepted, faultless_append, faultless_map}
+use Rattle.encoding.proofs.Lists.{on_places, place_member, map_back, InParts, in_parts}
+use Rattle.encoding.proofs.WordVerdicts.{length_fits, count_fits, agent_place_lem, root_place, rule_place, none_from, at_accepted, faultless_append, faultless_map}
 
 module _ (sc : Score) where
   abbrev said : Sizes
@@ -75,7 +74,7 @@ module _ (sc : Score) where
     agents_read = on_places AgentRead sc.agents Skip (λ i lt. agent_read (agent_at sc i) (agent_fits i lt))
 
     roots_fit : Within (λ i. i < 1024) sc.roots
-    roots_fit = on_entries (λ i. i < 1024) sc.roots (λ p lt. omega (arith, lawful.roots_known p lt, lawful.agents_at_most))
+    roots_fit = on_places (λ i. i < 1024) sc.roots 0 (λ p lt. omega (arith, lawful.roots_known p lt, lawful.agents_at_most))
 
     rules_read : Within RuleRead sc.rules
     rules_read r m =
@@ -174,7 +173,7 @@ module _ (sc : Score) where
         agent_place_lem said n (agent_word a) (omega arith) (omega arith)
         ∙ ap₂ (agent_verdict said) number (agent_read a (agent_fits i lt)).decoded
         ∙ at_accepted said (2 + i) (tokens_of a) refl (lawful.tokens_known i)
-        (ap₂ ◌||◌ (below_none i (parts_of a) (lawful.parts_lower i)) (below_none said.procedures (procedures_of a) (lawful.procedures_known i)))
+        (ap₂ ◌||◌ (none_from i (parts_of a) (lawful.parts_lower i)) (none_from said.procedures (procedures_of a) (lawful.procedures_known i)))
 
     root_accepted : (p n : ℕ) → n ≡ 2 + said.agents + p → p < said.procedures → word_verdict said n (root_word (root_of sc p)) ≡ Accepted
     root_accepted p n e lt =

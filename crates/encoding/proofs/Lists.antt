@@ -1,18 +1,19 @@
 -- Laws of lists by place.
+--     on_places         what holds of each entry holds of each member
+--     place_member      entry i is a member
 --     on_rest, on_part  what holds of each entry from k on, or of n entries from there, holds of each member of that part
 --     map_back          a function that takes each member's image back takes the list of the images back
 --     InParts           the parts of a list past its first two entries: the next i, the next j, all others
 --     in_parts          of a list that is two entries and three lists
 --     parts_whole       a list is its first two entries and those parts
 use mathlib.Core.Path.{◌≡◌, refl, sym, ap, ap₂, subst⁻¹, ◌∙◌}
-use mathlib.Core.List.Memᴰ
-use mathlib.Core.List.{List, [], ◌∷◌, ◌++◌, map, append_assoc}
-use Prim.Native.Nat.{ℕ, ◌+◌, ◌<◌, ◌≤◌}
+use mathlib.Core.List.{List, [], ◌∷◌, ◌++◌, map, append_assoc, Memᴰ}
+use Prim.Native.Nat.{ℕ, zero, suc, ◌+◌, ◌<◌, ◌≤◌}
+use native.Mathlib.Nat.{not-suc-le-zero, le_of_suc-le-suc}
 use native.Mathlib.Omega.{arith}
 use lib.ListN.{length, get_or, take, drop, take-append-drop, length-take, length-drop}
 use lib.Seq.{get_or-take, get_or-drop, take_at, drop_at, drop-drop}
-use Rattle.laws.proofs.Lists.{on_places}
-use Rattle.laws.proofs.Sets.{Within}
+use Rattle.laws.proofs.Sets.{Within, on_cons}
 
 pub record InParts {A : Type 0} (w : List A) (i j : ℕ) (l k m : List A) : Type 0 where
   pub first : take i (drop 2 w) ≡ l
@@ -20,6 +21,15 @@ pub record InParts {A : Type 0} (w : List A) (i j : ℕ) (l k m : List A) : Type
   pub third : drop (2 + i + j) w ≡ m
 
 module _ {A : Type 0} where
+  pub on_places : (P : A → Type 0) (l : List A) (d : A) → ((i : ℕ) → i < length l → P (get_or l i d)) → Within P l
+  on_places P [] d f x m = elim m [ ]
+  on_places P (y ∷ l) d f x m = on_cons {P = P} (f zero (omega arith)) (on_places P l d (λ i lt. f (suc i) (omega arith))) x m
+
+  pub place_member : (l : List A) (i : ℕ) (d : A) → i < length l → Memᴰ (get_or l i d) l
+  place_member [] i d lt = absurd (not-suc-le-zero lt)
+  place_member (x ∷ l) zero d lt = Memᴰ.head refl
+  place_member (x ∷ l) (suc i) d lt = Memᴰ.tail (place_member l i d (le_of_suc-le-suc lt))
+
   pub on_rest : (P : A → Type 0) (l : List A) (k : ℕ) (d : A) → ((i : ℕ) → k ≤ i → i < length l → P (get_or l i d)) → Within P (drop k l)
   on_rest P l k d f = on_places P (drop k l) d (λ i lt. subst⁻¹ P (get_or-drop k l i d) (f (k + i) (omega arith) (omega (arith, length-drop k l))))
 

@@ -10,7 +10,6 @@ use Prim.Native.Nat.{ℕ, ◌+◌, ◌-◌, ◌^◌, ◌<◌, ◌≤◌}
 use native.Mathlib.Omega.{arith}
 use lib.Dec.{leb, ltb}
 use lib.ListN.{length, take, drop}
-use Rattle.laws.proofs.Lists.{entry_member}
 use Rattle.laws.proofs.Sets.{Within}
 use Rattle.words.specs.Word.{field, words, word_at}
 use Rattle.format.specs.Format.{is_word, decode_agent, agent_of, rule_of}
@@ -29,7 +28,7 @@ use Rattle.bits.specs.Bits.{bytes_of}
 use Rattle.encoding.specs.Encode.{head_word, agent_word, root_word, rule_word, score_words, ReadBack}
 use Rattle.encoding.proofs.ReadWords.{head_again, ports_again, agent_again, root_again, rule_again}
 use Rattle.encoding.proofs.Bytes.{words_small, bytes_words}
-use Rattle.encoding.proofs.Lists.{on_rest, on_part, map_back, parts_whole}
+use Rattle.encoding.proofs.Lists.{on_rest, on_part, place_member, map_back, parts_whole}
 use Rattle.encoding.proofs.WordVerdicts.{agent_place_lem, root_place, at_formed, agent_formed}
 
 head_passed : (b : Bool) → cond b Accepted Head ≡ Accepted → b ≡ true
@@ -48,7 +47,7 @@ module _ (s : List ℕ) (small : Within (λ w. w < 2 ^ 32) (words s)) (e : verdi
   fine = accepted_faultless s e
 
   word_small : (k : ℕ) → k < length (words s) → word_at s k < 2 ^ 32
-  word_small k lt = small (word_at s k) (entry_member (words s) k lt)
+  word_small k lt = small (word_at s k) (place_member (words s) k 0 lt)
 
   head_formed : is_word 1 24 (word_at s 0) ≡ true
   unfolding verdict

@@ -1,18 +1,22 @@
 -- What the score check finds, by the places of words.
 --     length_fits, count_fits     a length that does not meet 1, a count that does not meet 3
 --     agent_place_lem, root_place, rule_place  a word is judged by its place
+--     none_from         where each member is below n, none is n or more
 --     at_accepted       a word of the form of its place that names and refers to what there is meets none of 4, 5 and 6
 --     at_formed, agent_formed     a word that meets none of them is of that form
 --     faultless_append, faultless_map     lists no word of which meets one
 use mathlib.Core.Path.{◌≡◌, refl}
 use mathlib.Core.Bool.{Bool, true, false}
+use mathlib.Core.List.Memᴰ
 use mathlib.Core.List.{List, [], ◌∷◌, ◌++◌, map}
 use Prim.Native.Nat.{ℕ, zero, suc, ◌+◌, ◌-◌, ◌%◌, ◌<◌, ◌≤◌}
 use native.Mathlib.Nat.{add-zero}
 use native.Mathlib.Omega.{arith}
-use borrow.Author.Tests.{lt-ltb, le-ltb, eq-eqb, ne_eqb}
+use borrow.Author.Tests.{lt-ltb, le-ltb, lt-leb, eq-eqb, ne_eqb}
+use lib.Dec.{leb}
 use lib.ListN.{length, get_or}
-use Rattle.laws.proofs.Sets.{Within, below_none}
+use Rattle.laws.specs.Sets.{any}
+use Rattle.laws.proofs.Sets.{Within}
 use Rattle.format.specs.declared.Sizes.{Sizes}
 use Rattle.format.specs.declared.Decoded.{Decoded}
 use Rattle.format.specs.declared.Decoded.TheVariants.{Whole, Malformed}
@@ -41,9 +45,13 @@ module _ (h : Sizes) (k w : ℕ) where
   unfolding word_verdict
   rule_place from = rw (le-ltb k 2 (omega arith), le-ltb k (2 + h.agents) (omega arith), le-ltb k (2 + h.agents + h.procedures) from)
 
+pub none_from : (n : ℕ) (l : List ℕ) → Within (λ t. t < n) l → any (λ t. leb n t) l ≡ false
+none_from n [] h = refl
+none_from n (x ∷ l) h = rw (lt-leb n x (h x (Memᴰ.head refl))) (none_from n l (λ t m. h t (Memᴰ.tail m)))
+
 pub at_accepted : (h : Sizes) (k : ℕ) {formed : Bool} (tokens : List ℕ) {astray : Bool} →
     formed ≡ true → Within (λ t. t < h.tokens) tokens → astray ≡ false → at_word h k formed tokens astray ≡ Accepted
-at_accepted h k tokens f known a = rw (f, below_none h.tokens tokens known, a)
+at_accepted h k tokens f known a = rw (f, none_from h.tokens tokens known, a)
 
 pub at_formed : (h : Sizes) (k : ℕ) (formed : Bool) (tokens : List ℕ) (astray : Bool) → at_word h k formed tokens astray ≡ Accepted → formed ≡ true
 at_formed h k true tokens astray e = refl

@@ -23,14 +23,14 @@ use lib.Pow.{pow_mono, pow_pos, pow-add}
 use Rattle.laws.proofs.Booleans.{both_and}
 use Rattle.laws.proofs.Sets.{Within}
 use Rattle.tcc.specs.Closure.{Rule}
-use Rattle.tcc.specs.Score.{tokens_of, parts_of, procedures_of, RuleFormed}
+use Rattle.tcc.specs.Score.{tokens_of, parts_of, procedures_of}
 use Rattle.tcc.specs.declared.Agent.{Agent}
 use Rattle.tcc.specs.declared.Agent.TheVariants.{Skip, Abort, Tell, Parallel, When, Next, Unless, Call}
 use Rattle.words.specs.Word.{field, kind}
 use Rattle.format.specs.declared.Decoded.TheVariants.{Whole}
 use Rattle.format.specs.Format.{clear, is_word, sizes_of, decode_agent, is_fact, is_rule, rule_of}
 use Rattle.format.proofs.Rule.{rule_fact, rule_plain, premises_fact, premises_plain}
-use Rattle.encoding.specs.Encode.{head_word, ports_word, agent_word, root_word, rule_word}
+use Rattle.encoding.specs.Encode.{head_word, ports_word, agent_word, root_word, rule_word, RuleFormed}
 use Rattle.encoding.proofs.Fields.{field_part}
 
 pub record Made (k named low w : ℕ) : Type 0 where

@@ -2,12 +2,13 @@
 --     head_word, ports_word, agent_word, root_word, rule_word
 --     score_words       head, ports, agents, procedures, rules
 --     score_bytes       their bytes
---     DecodesBack       the bytes of a lawful score whose rules have no premise or two are accepted, and stand for it
+--     RuleFormed        a rule that a word can say: no premise, or two
+--     DecodesBack       the bytes of a lawful score of such rules are accepted, and stand for that score
 --     ReadBack          an accepted score's bytes are those of the score that they stand for
-use Rattle.std.specs.Prelude.{◌≡◌, ℕ, ◌+◌, ◌-◌, ◌*◌, ◌^◌, ◌<◌, length}
+use Rattle.std.specs.Prelude.{◌≡◌, ◌⊎◌, ℕ, ◌+◌, ◌-◌, ◌*◌, ◌^◌, ◌<◌, length}
 use mathlib.Core.List.{List, [], ◌∷◌, ◌++◌, map, Memᴰ}
 use Rattle.tcc.specs.Closure.{Rule}
-use Rattle.tcc.specs.Score.{Score, RuleFormed}
+use Rattle.tcc.specs.Score.{Score}
 use Rattle.tcc.specs.Lawful.{Lawful}
 use Rattle.tcc.specs.declared.Agent.{Agent}
 use Rattle.tcc.specs.declared.Agent.TheVariants.{Skip, Abort, Tell, Parallel, When, Next, Unless, Call}
@@ -52,6 +53,9 @@ score_words sc =
 
 abbrev pub score_bytes : Score → List ℕ
 score_bytes sc = bytes_of (score_words sc)
+
+abbrev pub RuleFormed : Rule ℕ → Type 0
+RuleFormed r = (r.premises ≡ []) ⊎ ((p : ℕ) × (q : ℕ) × (r.premises ≡ p ∷ q ∷ []))
 
 abbrev pub DecodesBack : Type 0
 DecodesBack =

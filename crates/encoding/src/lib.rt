@@ -28,7 +28,7 @@ pub fn head_word(tokens: usize, agents: usize, procedures: usize) -> u32
     requires procedures_le_most_procedures { procedures ≤ most_procedures }
     ensures { result ≡ head_word tokens agents procedures }
 {
-    (tokens - 1) as u32 | ((agents - 1) as u32) << 8 | ((procedures - 1) as u32) << 18 | 1 << 28
+    word_of(1, tokens - 1, 8, agents - 1 + (procedures - 1) * 1024)
 }
 
 // The word of an agent.
@@ -65,7 +65,7 @@ pub fn rule_word(conclusion: usize, first: usize, second: usize) -> u32
     requires second_lt_most_tokens { second < most_tokens }
     ensures { result ≡ rule_word (record { premises = first ∷ second ∷ []; conclusion = conclusion }) }
 {
-    conclusion as u32 | (first as u32) << 8 | (second as u32) << 16 | 2 << 28
+    word_of(2, conclusion, 8, first + second * 256)
 }
 
 // The word of a rule with one premise, which stands in both fields.

@@ -10,7 +10,7 @@
 --     set_length_le      no more members than flags
 --     set_more           as many flags that have every member have no fewer
 --     set_of_none        where no flag is set, no members
---     flags_of_length, flagged_length, flags_of_flag   a set's flags: n of them, flag i says whether i is in
+--     flags_of_length, flags_of_flag     a set's flags: n of them, flag i says whether i is in
 --     flags_of_member, flags_of_within, member_flags_of  their members are the set's below n
 --     flags_settled      flags with the set's members below n are the set's flags
 --     flags_of_same      equal sets have equal flags
@@ -28,8 +28,7 @@ use Rattle.laws.specs.Sets.{Same, below, keep, has}
 use Rattle.laws.proofs.Lists.{map_at}
 use Rattle.laws.proofs.Booleans.{true_is_false}
 use Rattle.laws.proofs.Sets.{Among, on_keep, keep_kept, keep_agrees, below_lt, lt_below, has_member, member_has, not_has, keep_append, keep_none, keep_few, keep_more, below_length, below_at}
-use Rattle.flags.specs.Flags.{flags_of}
-use Rattle.flags.specs.Members.{set_of}
+use Rattle.flags.specs.Flags.{set_of, flags_of}
 
 -- a test that one number more passes
 module _ (f g : ℕ → Bool) (i : ℕ) (others : (j : ℕ) → (j ≡ i → ⊥) → f j ≡ g j) (out : f i ≡ false) (in' : g i ≡ true) where
@@ -111,9 +110,6 @@ module _ (n : ℕ) (l : List ℕ) where
   pub flags_of_length : length (flags_of n l) ≡ n
   unfolding flags_of
   flags_of_length = length-map (below n) (λ i. has i l) ∙ below_length n
-
-  pub flagged_length : {flags : List Bool} → flags ≡ flags_of n l → length flags ≡ n
-  flagged_length e = ap length e ∙ flags_of_length
 
   pub flags_of_flag : (i : ℕ) → i < n → get_or (flags_of n l) i false ≡ has i l
   unfolding flags_of

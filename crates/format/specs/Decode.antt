@@ -1,4 +1,4 @@
--- "In order: head, ports, N agent words (kinds 4 to 10; agent i is word 2+i), P procedure words, then 0 to 256 rules."
+-- "In order: head, ports, N agent words (agent i is word 2+i), P procedure words, then 0 to 256 rules."
 --     decode         the score that bytes stand for
 use Rattle.std.specs.Prelude.{List, map, ℕ, ◌+◌, take, drop}
 use Rattle.tcc.specs.Score.{Score}

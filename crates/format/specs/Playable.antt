@@ -1,5 +1,5 @@
--- Contracts of inner functions: bytes that an engine may play. All words are there, and the score that they stand for
--- is lawful. The score check accepts no others.
+-- Contracts of inner functions: bytes that an engine may play. All words are there, and the score that they stand for is
+-- lawful. The score check accepts no others.
 use Rattle.std.specs.Prelude.{List, ℕ, ◌+◌, ◌≤◌, length}
 use Rattle.tcc.specs.Lawful.{Lawful}
 use Rattle.words.specs.Word.{words}

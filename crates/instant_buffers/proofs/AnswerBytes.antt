@@ -12,8 +12,7 @@ use Rattle.laws.specs.Sets.{Same}
 use Rattle.tcc.specs.Score.{Score}
 use Rattle.tcc.specs.Instant.{Answer, output, running, aborted, after}
 use Rattle.tcc.proofs.Output.{output_same}
-use Rattle.flags.specs.Flags.{flags_of}
-use Rattle.flags.specs.Members.{set_of}
+use Rattle.flags.specs.Flags.{set_of, flags_of}
 use Rattle.bits.specs.Bits.{bytes_of}
 use Rattle.lent.specs.States.{running_word, aborted_word, agent_words, numbered}
 use Rattle.lent.proofs.Round.{agent_words_same}

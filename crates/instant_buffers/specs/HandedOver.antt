@@ -7,7 +7,7 @@ use Rattle.std.specs.Prelude.{◌≡◌, false, cond, List, [], ◌∷◌, ◌++
 use Rattle.tcc.specs.Score.{Score}
 use Rattle.tcc.specs.Instant.{output}
 use Rattle.format.specs.declared.Sizes.{Sizes}
-use Rattle.flags.specs.Members.{set_of}
+use Rattle.flags.specs.Flags.{set_of}
 use Rattle.instant_engine.specs.declared.Outcome.{Outcome}
 use Rattle.bits.specs.Bits.{bytes_of}
 use Rattle.lent.specs.Lengths.{state_bytes, map_bytes}
@@ -24,7 +24,6 @@ pub record Known (head : Sizes) (o : Outcome) : Type 0 where
   pub tokens : (t : ℕ) → head.tokens ≤ t → get_or o.store t false ≡ false
 
 pub record HandedOver (sc : Score) (o : Outcome) (number : ℕ) (state store sent : List ℕ) : Type 0 where
-  pub state_is : state ≡
-      bytes_of ((cond (eqb o.status 2) aborted_word running_word ∷ agent_words (set_of o.awake)) ++ number ∷ [])
+  pub state_is : state ≡ bytes_of ((cond (eqb o.status 2) aborted_word running_word ∷ agent_words (set_of o.awake)) ++ number ∷ [])
   pub store_is : store ≡ map_of (set_of o.store)
   pub output_is : sent ≡ map_of (output sc o.status (set_of o.store))

@@ -18,7 +18,7 @@ use Rattle.check_verdicts.specs.Verdicts.{verdict_number}
 use Rattle.check_score.specs.Check.{verdict}
 use Rattle.check_score.proofs.Stages.{passed}
 use Rattle.check_score.proofs.Stages as stages
-use Rattle.flags.specs.Members.{set_of}
+use Rattle.flags.specs.Flags.{set_of}
 use Rattle.instant_engine.specs.declared.Outcome.{Outcome}
 use Rattle.instant_engine.specs.Outcome.{outcome_of}
 use Rattle.bits.specs.Bits.{bytes_of}

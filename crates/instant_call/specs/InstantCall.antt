@@ -1,5 +1,5 @@
--- What a call of the instant does with what it is lent: numbers 1 to 10 of the table, in their order, 18 and 11. "18,
--- an instant is wanted at 4,294,967,295, after 10"; "a lone instant leaves all as it was" (W7).
+-- What a call of the instant does with what it is lent: numbers 1 to 10 of the table, in their order, 18 and 11. "18, an
+-- instant is wanted at 4,294,967,295, after 10; a lone instant leaves all as it was" (W7).
 --     Lent             the buffers that the call may write: state, store map, output map, scratch
 --     Exit             what they hold afterwards, and the reply
 --     length_fault     number 8
@@ -19,8 +19,7 @@ use Rattle.lent.specs.Lengths.{state_bytes, map_bytes, scratch_bytes, no_scratch
 use Rattle.lent.specs.States.{state_fault, state_of, as_bytes, next_bytes, at_last}
 use Rattle.lent_maps.specs.Maps.{tokens_in, map_of}
 use Rattle.instant_call.specs.declared.Reply.{Reply}
-use Rattle.instant_call.specs.declared.Reply.TheVariants.{Score as Turned, Lengths, State, Input}
-use Rattle.instant_call.specs.declared.Reply.TheVariants.{Last, Next, Settled}
+use Rattle.instant_call.specs.declared.Reply.TheVariants.{Score as Turned, Lengths, State, Input, Last, Next, Settled}
 
 pub record Lent : Type 0 where
   pub state : List ℕ
@@ -37,8 +36,7 @@ pub record Exit : Type 0 where
 
 abbrev pub length_fault : List ℕ → Lent → Bool
 length_fault input l =
-    not (eqb (length l.state) state_bytes) || not (eqb (length input) map_bytes)
-    || not (eqb (length l.store) map_bytes)
+    not (eqb (length l.state) state_bytes) || not (eqb (length input) map_bytes) || not (eqb (length l.store) map_bytes)
     || not (eqb (length l.output) map_bytes) || not (eqb (length l.scratch) scratch_bytes)
 
 abbrev pub token_fault : List ℕ → List ℕ → Bool
@@ -59,8 +57,7 @@ answered sc state a =
 
 -- once 1 to 10 and 18 have been tried
 abbrev pub played : List ℕ → Lent → Answer → Exit
-played score l a =
-    cond (state_fault (sizes score).agents (as_bytes (after a))) (cleared l Next) (answered (decode score) l.state a)
+played score l a = cond (state_fault (sizes score).agents (as_bytes (after a))) (cleared l Next) (answered (decode score) l.state a)
 
 unfoldable pub exit : List ℕ → List ℕ → Lent → Exit
 exit score input l =

@@ -3,7 +3,7 @@ ghost use Rattle.std.specs.Prelude.{◌≡◌, length};
 ghost use Rattle.tcc.specs.Instant.{answer};
 ghost use Rattle.instant_prepared.specs.Prepared.{PreparedFrom};
 ghost use Rattle.format.specs.Decode.{decode};
-ghost use Rattle.flags.specs.Members.{set_of};
+ghost use Rattle.flags.specs.Flags.{set_of};
 ghost use Rattle.instant_engine.specs.Outcome.{outcome_of};
 ghost use Rattle.lent.specs.Lengths.{state_bytes, no_scratch};
 ghost use Rattle.lent.specs.States.{state_of};

@@ -1,4 +1,4 @@
--- The agents reduced, counted and cleared (W4).
+-- Contracts of inner functions: the agents reduced, counted and cleared.
 --     Tallied        the count is the number of bits set in the scratch before, and after it the scratch is zero
 use Rattle.std.specs.Prelude.{◌≡◌, List, ℕ, length}
 use Rattle.lent.specs.Lengths.{no_scratch}

@@ -18,7 +18,7 @@ use Rattle.bits.specs.Bits.{bits_value}
 use Rattle.bits.proofs.Bits.{bits_value_or, bits_value_skip}
 use Rattle.instant_end.specs.declared.Fate.{Fate}
 use Rattle.instant_end.specs.declared.Fate.TheVariants.{Aborts, Reduced, Stays}
-use Rattle.instant_end.specs.Reading.{fate_of}
+use Rattle.instant_end.specs.Ended.{fate_of}
 use Rattle.instant_end.proofs.Reduced.{reduced_has}
 
 abbrev pub Says : Fate → Bool → Bool → Type 0

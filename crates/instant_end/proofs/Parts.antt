@@ -21,7 +21,7 @@ use Rattle.tcc.specs.Instant.{is_abort, leaves, reduced_of}
 use Rattle.bits.specs.Bits.{bits_value}
 use Rattle.bits.proofs.Bits.{bits_value_beyond}
 use Rattle.instant_end.specs.declared.Fate.TheVariants.{Reduced, Stays}
-use Rattle.instant_end.specs.Reading.{Parted, Read, flagged, fate_of}
+use Rattle.instant_end.specs.Ended.{fate_of, flagged, Read, Parted}
 use Rattle.instant_end.proofs.Fates.{fate_says, bit_live, bit_by, word_set, word_unset}
 use Rattle.instant_end.proofs.Reading.{read_by, read_more, read_beyond}
 use Rattle.instant_end.proofs.Reduced.{reduced_few}

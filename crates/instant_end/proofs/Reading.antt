@@ -1,6 +1,5 @@
 -- The live agents, read from agent 0 on.
 --     flagged_length, flagged_kept, flagged_here, flagged_cases     what flagging adds
---     flags_none           no flag is set for the empty set
 --     read_none            no agent is read
 --     read_by, read_more   agent i is read: it is not live; it is, and leaves its body
 --     read_beyond          there are no more agents
@@ -25,10 +24,9 @@ use Rattle.tcc.specs.Lawful.{Lawful}
 use Rattle.tcc.specs.declared.Agent.{Agent}
 use Rattle.tcc.specs.declared.Agent.TheVariants.{Skip, Abort, Tell, Parallel, When, Next, Unless, Call}
 use Rattle.tcc.proofs.FixedPoint.{awake_member, member_awake}
-use Rattle.flags.specs.Flags.{flags_of}
-use Rattle.flags.specs.Members.{set_of}
+use Rattle.flags.specs.Flags.{set_of, flags_of}
 use Rattle.flags.proofs.Flags.{set_kept, set_here, set_cases, set_of_none, flags_settled}
-use Rattle.instant_end.specs.Reading.{Read, flagged}
+use Rattle.instant_end.specs.Ended.{flagged, Read}
 
 pub flagged_length : (l : List ℕ) (flags : List Bool) → length (flagged l flags) ≡ length flags
 flagged_length [] flags = refl
@@ -65,9 +63,6 @@ leaves_part held (Unless t c) {b} m = go (has t held) m
     go true m = absurd (elim m [ ])
     go false m = m
 leaves_part held (Call p) m = absurd (elim m [ ])
-
-pub flags_none : (n : ℕ) → replicate n false ≡ flags_of n []
-flags_none n = flags_settled n [] (replicate n false) (length-replicate n false) (λ i lt. (λ m. subst (λ l. Memᴰ i l) (set_of_none n) m, λ m. elim m [ ]))
 
 module _ (sc : Score) (live held : List ℕ) where
   pub read_none : Read sc live held 0 (replicate 1024 false)

@@ -3,7 +3,6 @@
 --     reduced_few          no other agent is
 --     word_of               the word of the 32 agents from agent 32 k on
 --     Marked               the scratch has the words of the first 32 k agents
---     no_bytes, none_reduced     a scratch that is zero: its bytes, and no bit is set
 --     marked_none, marked_more     no word; one word more
 --     marked_long, marked_unset     the scratch has its length, and no bit is set beyond them
 --     marked_reduced       once all are in, the agents whose bits are set are those reduced
@@ -19,7 +18,7 @@ use lib.ListN.{length, get_or, take, drop, length-map, length-append, length-dro
 use Rattle.laws.specs.Sets.{below, has}
 use Rattle.laws.proofs.Counted.{kept_beyond}
 use Rattle.laws.proofs.Lists.{map_at, map_snoc}
-use Rattle.laws.proofs.Sets.{on_keep, keep_none, keep_agrees, not_has, below_lt, below_length, below_at}
+use Rattle.laws.proofs.Sets.{on_keep, keep_agrees, not_has, below_lt, below_length, below_at}
 use Rattle.tcc.specs.Score.{Score, agent_at}
 use Rattle.tcc.specs.Instant.{reducible, reduced_of}
 use Rattle.bits.specs.Bits.{bit_at, bits_value, bytes_of}
@@ -31,12 +30,8 @@ use Rattle.lent.specs.Lengths.{scratch_bytes, no_scratch}
 use Rattle.lent.specs.Scratch.{reduced_in}
 use Rattle.instant_count.proofs.Tallying.{bit_in}
 
-pub no_bytes : (k : ℕ) → get_or no_scratch k 0 ≡ 0
+no_bytes : (k : ℕ) → get_or no_scratch k 0 ≡ 0
 no_bytes k = by_cases (dec_lt k scratch_bytes) (λ l. get_or-replicate {A = ℕ} scratch_bytes k 0 0 l) (λ g. get_or-eq_default no_scratch 0 {n = k} (omega (arith, length-replicate {A = ℕ} scratch_bytes 0)))
-
-pub none_reduced : (scratch : List ℕ) → scratch ≡ no_scratch → reduced_in scratch ≡ []
-unfolding reduced_in
-none_reduced scratch e = keep_none (bit_in scratch) (below 1024) (λ i m. ap (λ s. bit_at (get_or s (i / 8) 0) (i % 8)) e ∙ ap (λ b. bit_at b (i % 8)) (no_bytes (i / 8)) ∙ bit_none (i % 8))
 
 module _ (sc : Score) (live held : List ℕ) where
   abbrev reduced : List ℕ

@@ -10,7 +10,7 @@ use Rattle.tcc.specs.declared.Agent.{Agent}
 use Rattle.tcc.specs.declared.Agent.TheVariants.{Skip, Abort, Tell, Parallel, When, Next, Unless, Call}
 use Rattle.tcc.specs.contracts.Agent.{the_type}
 use Rattle.instant_end.specs.declared.Fate.TheVariants.{Reduced}
-use Rattle.instant_end.specs.Reading.{fate_of}
+use Rattle.instant_end.specs.Ended.{fate_of}
 
 pub record Spent (held : List ℕ) (a : Agent) : Type 0 where
   pub fate : Reduced ≡ fate_of held a

@@ -1,25 +1,48 @@
--- What is read off the marks of an instant once nothing can be added to them. "They hold one bit for each agent reduced
--- in the instant" (W4): the agents reduced are left as bits in the scratch. An aborted instant has none, and leaves
--- none awake.
---     unless_aborted  a set, or none at an abort
---     Ended          whether a live agent aborts, the agents reduced, and the bodies left awake; at an abort the
---                    scratch is zero, and beyond the words of the score's agents it always is
-use Rattle.std.specs.Prelude.{◌≡◌, Bool, true, cond, List, [], ℕ, ◌+◌, ◌*◌, ◌/◌, ◌≤◌, length, get_or}
-use Rattle.laws.specs.Sets.{any}
+-- Contracts of inner functions: what is read off the marks of an instant. The agents reduced are left as bits in the
+-- scratch. Where the instant aborts, bits and agents awake are whatever the reading had come to: an aborted instant has
+-- neither.
+--     fate_of        what a live agent comes to
+--     flagged        flags, with those of a set set
+--     Read           the live agents below i are no aborts, and the bodies that they leave are awake
+--     Parted         what the 32 agents from agent 32 k on come to
+--     Ended          whether a live agent aborts; if none does, the agents reduced, and the bodies left awake; beyond the
+--                    words of the score's agents no bit is set
+use Rattle.std.specs.Prelude.{◌≡◌, Bool, true, false, cond, ℕ, ◌+◌, ◌*◌, ◌/◌, ◌<◌, ◌≤◌, length, get_or, set}
+use mathlib.Core.List.{List, [], ◌∷◌, Memᴰ}
+use Rattle.laws.specs.Sets.{any, has}
 use Rattle.tcc.specs.Score.{Score, agent_at}
-use Rattle.tcc.specs.Instant.{is_abort, reduced_of, left_awake}
-use Rattle.flags.specs.Flags.{flags_of}
-use Rattle.lent.specs.Lengths.{scratch_bytes, no_scratch}
+use Rattle.tcc.specs.Instant.{is_abort, reducible, leaves, reduced_of, left_awake}
+use Rattle.tcc.specs.declared.Agent.{Agent}
+use Rattle.flags.specs.Flags.{set_of, flags_of}
+use Rattle.bits.specs.Bits.{bits_value}
+use Rattle.lent.specs.Lengths.{scratch_bytes}
 use Rattle.lent.specs.Scratch.{reduced_in}
 use Rattle.instant_end.specs.declared.Ending.{Ending}
+use Rattle.instant_end.specs.declared.Part.{Part}
+use Rattle.instant_end.specs.declared.Fate.{Fate}
+use Rattle.instant_end.specs.declared.Fate.TheVariants.{Aborts, Reduced, Stays}
 
-abbrev pub unless_aborted : Bool → List ℕ → List ℕ
-unless_aborted aborted l = cond aborted [] l
+abbrev pub fate_of : List ℕ → Agent → Fate
+fate_of held a = cond (is_abort a) Aborts (cond (reducible held a) Reduced Stays)
+
+abbrev pub flagged : List ℕ → List Bool → List Bool
+flagged [] flags = flags
+flagged (b ∷ l) flags = flagged l (set flags b true)
+
+pub record Read (sc : Score) (live held : List ℕ) (i : ℕ) (awake : List Bool) : Type 0 where
+  pub long : length awake ≡ 1024
+  pub free : (j : ℕ) → j < i → Memᴰ j live → is_abort (agent_at sc j) ≡ false
+  pub sound : (b : ℕ) → Memᴰ b (set_of awake) → Memᴰ b (left_awake sc held live)
+  pub whole : (j b : ℕ) → j < i → Memᴰ j live → Memᴰ b (leaves held (agent_at sc j)) → Memᴰ b (set_of awake)
+
+pub record Parted (sc : Score) (live held : List ℕ) (k : ℕ) (awake : List Bool) (part : Part) : Type 0 where
+  pub aborts : part.aborted ≡ true → any (λ i. is_abort (agent_at sc i)) live ≡ true
+  pub read : part.aborted ≡ false → Read sc live held (32 * (k + 1)) awake
+  pub reduced : part.aborted ≡ false → part.reduced ≡ bits_value (λ j. has (32 * k + j) (reduced_of sc held live)) 32
 
 pub record Ended (sc : Score) (live held scratch : List ℕ) (end : Ending) : Type 0 where
   pub aborted : end.aborted ≡ any (λ i. is_abort (agent_at sc i)) live
-  pub reduced : reduced_in scratch ≡ unless_aborted end.aborted (reduced_of sc held live)
-  pub awake : end.awake ≡ flags_of 1024 (unless_aborted end.aborted (left_awake sc held live))
-  pub cleared : end.aborted ≡ true → scratch ≡ no_scratch
+  pub reduced : end.aborted ≡ false → reduced_in scratch ≡ reduced_of sc held live
+  pub awake : end.aborted ≡ false → end.awake ≡ flags_of 1024 (left_awake sc held live)
   pub long : length scratch ≡ scratch_bytes
   pub unset : (k : ℕ) → 4 * ((length sc.agents + 31) / 32) ≤ k → get_or scratch k 0 ≡ 0

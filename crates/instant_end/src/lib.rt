@@ -6,16 +6,15 @@ ghost use Rattle.tcc.specs.Instant.{is_abort, leaves};
 ghost use Rattle.format.specs.Decode.{sizes, decode};
 ghost use Rattle.format.specs.Playable.{Playable};
 ghost use Rattle.instant_prepared.specs.Prepared.{PreparedFrom};
-ghost use Rattle.flags.specs.Members.{set_of};
+ghost use Rattle.flags.specs.Flags.{set_of};
 ghost use Rattle.lent.specs.Lengths.{no_scratch};
-ghost use Rattle.instant_end.specs.Ended.{Ended};
-ghost use Rattle.instant_end.specs.Reading.{Parted, Read, flagged, fate_of};
+ghost use Rattle.instant_end.specs.Ended.{fate_of, flagged, Read, Parted, Ended};
 
 use flags::{Agents, Tokens};
 use instant_prepared::Prepared;
 use tcc::Agent;
 
-// What an instant comes to: whether it aborts, and which agents are awake next, after an abort none.
+// What an instant comes to: whether it aborts; if not, which agents are awake next.
 #[derive(Drop)]
 pub struct Ending {
     pub aborted: bool,
@@ -37,8 +36,7 @@ enum Fate {
     Stays,
 }
 
-// Reads the live agents once nothing can be added, and leaves a bit in the scratch for each that is reduced; at an abort
-// none.
+// Reads the live agents once nothing can be added, and leaves a bit in the scratch for each that is reduced.
 pub fn end_of(
     s: &[u8],
     prepared: &Prepared,
@@ -56,10 +54,9 @@ pub fn end_of(
     while 32 * k < head.agents {
         let part = part_of(s, head.agents, live, held, k, &mut awake);
         if part.aborted {
-            instant_count::count_and_clear(scratch, 4 * k);
             return Ending {
                 aborted: true,
-                awake: [false; 1024],
+                awake,
             };
         }
         bits::put_word(scratch, k, part.reduced);

@@ -1,12 +1,10 @@
 -- The closed store as flags.
---     Shut               whatever the rules and the clash bring is held
 --     closed_shut        it is closed
 --     closed_above       it holds what it was given
 --     closed_reached     and nothing else than the instant's, if what it was given is
 use mathlib.Core.List.{List, Memᴰ}
 use Prim.Native.Nat.{ℕ, ◌<◌}
 use native.Mathlib.Omega.{arith}
-use Rattle.tcc.specs.Closure.{Rule}
 use Rattle.tcc.specs.Score.{Score}
 use Rattle.tcc.specs.Lawful.{Lawful}
 use Rattle.tcc.specs.Store.{store_rules, closure}
@@ -14,14 +12,9 @@ use Rattle.tcc.specs.Instant.{held, reached}
 use Rattle.tcc.proofs.Closure.{Follows}
 use Rattle.tcc.proofs.Store.{follows_rules, follows_clash, store_follows, closes_above, closes_follows, closes_least, closure_exact}
 use Rattle.tcc.proofs.FixedPoint.{reach}
-use Rattle.flags.specs.Flags.{flags_of}
-use Rattle.flags.specs.Members.{set_of}
+use Rattle.flags.specs.Flags.{set_of, flags_of}
 use Rattle.flags.proofs.Flags.{flags_of_member, member_flags_of}
-
-pub record Shut (sc : Score) (held : List ℕ) : Type 0 where
-  pub rules : (r : Rule ℕ) → Memᴰ r sc.rules →
-      ((p : ℕ) → Memᴰ p r.premises → Memᴰ p held) → Memᴰ r.conclusion held
-  pub clash : (t : ℕ) → Memᴰ 0 held → t < sc.tokens → Memᴰ t held
+use Rattle.instant_engine.specs.Marks.{Shut}
 
 module _ (sc : Score) (lawful : Lawful sc) (given : List ℕ) where
   follows : Follows (λ t. Memᴰ t (closure sc given)) (store_rules sc)

@@ -14,12 +14,11 @@ use Rattle.tcc.specs.Store.{closure}
 use Rattle.tcc.specs.FixedPoint.{Marked, Sound}
 use Rattle.tcc.specs.declared.Agent.{Agent}
 use Rattle.tcc.proofs.FixedPoint.{reach}
-use Rattle.flags.specs.Flags.{flags_of}
-use Rattle.flags.specs.Members.{set_of}
+use Rattle.flags.specs.Flags.{set_of, flags_of}
 use Rattle.flags.proofs.Flags.{member_within}
 use Rattle.instant_marks.specs.Passed.{Served, Passed}
-use Rattle.instant_engine.specs.Marks.{Fixed}
-use Rattle.instant_engine.proofs.Closing.{Shut, closed_shut, closed_above, closed_reached}
+use Rattle.instant_engine.specs.Marks.{Shut, Fixed}
+use Rattle.instant_engine.proofs.Closing.{closed_shut, closed_above, closed_reached}
 
 module _ (sc : Score) where
   pub record Settling (live₀ held₀ live held : List ℕ) : Type 0 where

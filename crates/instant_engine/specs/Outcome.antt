@@ -7,8 +7,7 @@ use Rattle.instant_engine.specs.declared.Outcome.{Outcome}
 use Rattle.instant_engine.specs.declared.Trial.{Trial}
 
 unfoldable pub outcome_of : Answer → Outcome
-outcome_of a =
-    record { status = a.status; count = count a; store = flags_of 256 a.store; awake = flags_of 1024 a.awake }
+outcome_of a = record { status = a.status; count = count a; store = flags_of 256 a.store; awake = flags_of 1024 a.awake }
 
 unfoldable pub trial_of : Answer → Trial
 trial_of a = record { status = a.status; store = flags_of 256 a.store }

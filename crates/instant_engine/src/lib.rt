@@ -3,7 +3,7 @@ ghost use Rattle.std.specs.Prelude.{◌≡◌, length};
 ghost use Rattle.tcc.specs.Instant.{instant};
 ghost use Rattle.format.specs.Decode.{decode};
 ghost use Rattle.instant_prepared.specs.Prepared.{PreparedFrom};
-ghost use Rattle.flags.specs.Members.{set_of};
+ghost use Rattle.flags.specs.Flags.{set_of};
 ghost use Rattle.lent.specs.Lengths.{no_scratch};
 ghost use Rattle.instant_engine.specs.Marks.{Fixed};
 ghost use Rattle.instant_engine.specs.Outcome.{outcome_of, trial_of};
@@ -38,22 +38,23 @@ pub fn play(
     let mut live = agents;
     let held = settle(s, prepared, &mut live, inputs);
     let end = instant_end::end_of(s, prepared, &live, &held, scratch);
+    let count = instant_count::count_and_clear(scratch, 4 * ((head.agents + 31) / 32));
     if end.aborted {
-        return Outcome {
+        Outcome {
             status: 2,
             count: 0,
             store: [false; 256],
             awake: [false; 1024],
-        };
-    }
-    let count = instant_count::count_and_clear(scratch, 4 * ((head.agents + 31) / 32));
-    let status = if held[0] { 1 } else { 0 };
-    let awake = end.awake;
-    Outcome {
-        status,
-        count,
-        store: held,
-        awake,
+        }
+    } else {
+        let status = if held[0] { 1 } else { 0 };
+        let awake = end.awake;
+        Outcome {
+            status,
+            count,
+            store: held,
+            awake,
+        }
     }
 }
 

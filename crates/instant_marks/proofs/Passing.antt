@@ -26,7 +26,7 @@ use Rattle.tcc.specs.FixedPoint.{Marked, Sound}
 use Rattle.tcc.specs.declared.Agent.{Agent}
 use Rattle.tcc.specs.declared.Agent.TheVariants.{Skip, Abort, Tell, Parallel, When, Next, Unless, Call}
 use Rattle.tcc.proofs.FixedPoint.{reach}
-use Rattle.flags.specs.Members.{set_of}
+use Rattle.flags.specs.Flags.{set_of}
 use Rattle.flags.proofs.Flags.{flag_member, member_flag, set_kept, set_here, set_cases, set_longer, set_more}
 use Rattle.format.proofs.Known.{part_lower}
 use Rattle.instant_marks.specs.Passed.{Served, Passed}

@@ -17,11 +17,9 @@ use Rattle.tcc.specs.Score.{Score, agent_at}
 use Rattle.tcc.specs.Lawful.{Lawful, AgentsBelow}
 use Rattle.tcc.specs.Instant.{Fact, live_in, held_in, is_abort, Answer, aborted_answer, quiet_answer, answer_of, reached, instant, State, running, aborted, answer, after}
 use Rattle.tcc.proofs.FixedPoint.{stays_known}
-use Rattle.flags.specs.Flags.{flags_of}
-use Rattle.flags.specs.Members.{set_of}
+use Rattle.flags.specs.Flags.{set_of, flags_of}
 use Rattle.flags.proofs.Flags.{flag_member, flags_of_member, member_flags_of}
-use Rattle.lent.specs.States.{state_fault, as_bytes}
-use Rattle.lent.specs.Lawful.{LawfulState}
+use Rattle.lent.specs.States.{state_fault, as_bytes, LawfulState}
 use Rattle.lent.proofs.Round.{lawful_bytes}
 
 pub flags_back : (n : ℕ) (l : List ℕ) → ((i : ℕ) → Memᴰ i l → i < n) → Same (set_of (flags_of n l)) l

@@ -12,8 +12,7 @@ use Rattle.laws.proofs.Booleans.{and_both, both_and}
 use Rattle.tcc.specs.Score.{Score}
 use Rattle.tcc.specs.Instant.{output}
 use Rattle.tcc.proofs.Output.{output_clash, output_has, output_from}
-use Rattle.flags.specs.Flags.{flags_of}
-use Rattle.flags.specs.Members.{set_of}
+use Rattle.flags.specs.Flags.{set_of, flags_of}
 use Rattle.flags.proofs.Flags.{flag_member, member_flag, flags_settled}
 use Rattle.instant_engine.proofs.Outcomes.{flags_none}
 

@@ -4,8 +4,7 @@
 use Rattle.std.specs.Prelude.{cond, not, List, ℕ, eqb}
 use Rattle.tcc.specs.Instant.{State, running, aborted}
 use Rattle.words.specs.Word.{word_at}
-use Rattle.flags.specs.Flags.{flags_of}
-use Rattle.flags.specs.Members.{set_of}
+use Rattle.flags.specs.Flags.{set_of, flags_of}
 use Rattle.lent.specs.States.{aborted_word, agents_in}
 use Rattle.instant_state.specs.declared.Standing.{Standing}
 

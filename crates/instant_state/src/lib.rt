@@ -4,12 +4,10 @@ ghost use Rattle.tcc.specs.Instant.{output, answer};
 ghost use Rattle.instant_prepared.specs.Prepared.{PreparedFrom};
 ghost use Rattle.format.specs.Decode.{decode};
 ghost use Rattle.format.specs.Playable.{Playable};
-ghost use Rattle.flags.specs.Flags.{flags_of};
-ghost use Rattle.flags.specs.Members.{set_of};
+ghost use Rattle.flags.specs.Flags.{set_of, flags_of};
 ghost use Rattle.instant_engine.specs.Outcome.{outcome_of};
 ghost use Rattle.lent.specs.Lengths.{unnumbered_bytes, state_bytes, no_scratch};
-ghost use Rattle.lent.specs.States.{as_bytes, numbered};
-ghost use Rattle.lent.specs.Lawful.{LawfulState};
+ghost use Rattle.lent.specs.States.{as_bytes, numbered, LawfulState};
 ghost use Rattle.instant_state.specs.Standing.{state_in, standing_in};
 
 use flags::{Agents, Tokens};

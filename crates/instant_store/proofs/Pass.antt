@@ -23,7 +23,7 @@ use Rattle.laws.proofs.Booleans.{true_is_false, by_test, either}
 use Rattle.laws.proofs.Sets.{Within, Among, on_cons, each_every}
 use Rattle.tcc.specs.Closure.{Rule}
 use Rattle.tcc.proofs.Closure.{Follows}
-use Rattle.flags.specs.Members.{set_of}
+use Rattle.flags.specs.Flags.{set_of}
 use Rattle.instant_store.specs.PassBound.{applied, pass, after, Adds}
 use Rattle.flags.proofs.Flags.{flag_member, member_flag, set_kept, set_here, set_cases, set_again, set_longer, set_more}
 

@@ -11,7 +11,7 @@ use native.Mathlib.Omega.{arith}
 use lib.ListN.{length, get_or}
 use Rattle.laws.proofs.Booleans.{true_is_false}
 use Rattle.tcc.specs.Closure.{Rule}
-use Rattle.flags.specs.Members.{set_of}
+use Rattle.flags.specs.Flags.{set_of}
 use Rattle.instant_store.specs.PassBound.{pass, after, Adds, PassCount, last, more, OneCount, PassBound}
 use Rattle.flags.proofs.Flags.{set_length_le}
 use Rattle.instant_store.proofs.Pass.{pass_long, pass_kept, adds_longer}

@@ -27,7 +27,7 @@ use Rattle.format.specs.Format.{is_fact, rule_of}
 use Rattle.format.specs.Decode.{decode}
 use Rattle.format.proofs.Decode.{rules_from, rule_member}
 use Rattle.format.proofs.Rule.{premises_fact, premises_plain}
-use Rattle.flags.specs.Members.{set_of}
+use Rattle.flags.specs.Flags.{set_of}
 use Rattle.instant_store.specs.PassBound.{applied, pass}
 use Rattle.instant_store.specs.Passes.{HasFacts, adds, Passed, Flooded}
 use Rattle.instant_store.proofs.Pass.{applied_brings, applied_keeps, applied_already}
@@ -87,15 +87,15 @@ passing_none s k facts store start long facts_in = record {
 }
 
 -- the rules from word k on
-rules_at_lem : (s : List ℕ) (k : ℕ) (store : List Bool) → k < length (words s) →
+rules_at : (s : List ℕ) (k : ℕ) (store : List Bool) → k < length (words s) →
     pass (map rule_of (drop k (words s))) store ≡ pass (map rule_of (drop (k + 1) (words s))) (applied (rule_of (word_at s k)) store)
-rules_at_lem s k store within = rw (add-one, drop-cons (words s) k 0 within)
+rules_at s k store within = rw (add-one, drop-cons (words s) k 0 within)
 
 module _ (s : List ℕ) (k : ℕ) (facts : Bool) (before later : List Bool) (added : ℕ) (h : Passing s k facts before later added) where
   pub passing_skipped : rules_from s ≤ k → k < length (words s) → adds later (word_at s k) facts ≡ false → Passing s (k + 1) facts before later added
   passing_skipped start within e = record {
     long = h.long;
-    rest = h.rest ∙ rules_at_lem s k later within ∙ ap (pass (map rule_of (drop (k + 1) (words s)))) (skips_applied later (word_at s k) facts e (λ off. h.facts_in off (rule_of (word_at s k)) (rule_member s k start within)));
+    rest = h.rest ∙ rules_at s k later within ∙ ap (pass (map rule_of (drop (k + 1) (words s)))) (skips_applied later (word_at s k) facts e (λ off. h.facts_in off (rule_of (word_at s k)) (rule_member s k start within)));
     counted = h.counted;
     facts_in = h.facts_in;
   }
@@ -107,7 +107,7 @@ module _ (s : List ℕ) (k : ℕ) (facts : Bool) (before later : List Bool) (add
       let comes = adds_applied later (word_at s k) facts e in
       record {
         long = let l : length later ≡ 256 = h.long in omega (arith, length-set later token true);
-        rest = h.rest ∙ rules_at_lem s k later within ∙ ap (pass (map rule_of (drop (k + 1) (words s)))) comes.1;
+        rest = h.rest ∙ rules_at s k later within ∙ ap (pass (map rule_of (drop (k + 1) (words s)))) comes.1;
         counted = omega (arith, h.counted, set_longer later token room comes.0);
         facts_in = λ off r m none. set_kept later token (h.facts_in off r m none);
       }

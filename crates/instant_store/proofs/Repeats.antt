@@ -20,7 +20,7 @@ use Rattle.words.specs.Word.{word_at}
 use Rattle.words.proofs.Field.{field_below}
 use Rattle.format.specs.Decode.{decode}
 use Rattle.format.proofs.Decode.{on_rules}
-use Rattle.flags.specs.Members.{set_of}
+use Rattle.flags.specs.Flags.{set_of}
 use Rattle.instant_store.specs.PassBound.{pass, after, Adds, PassCount, last, more}
 use Rattle.instant_store.specs.Passes.{HasFacts, Passed, Repeated}
 use Rattle.flags.proofs.Flags.{set_length_le}

@@ -12,9 +12,9 @@ use borrow.Author.Tests.{not-true}
 use lib.ListN.{length, get_or}
 use Rattle.laws.specs.Sets.{keep, every}
 use Rattle.laws.proofs.Booleans.{true_is_false, either}
-use Rattle.laws.proofs.Sets.{keep_few, keep_fewer}
+use Rattle.laws.proofs.Sets.{Within, keep_few, keep_more}
 use Rattle.tcc.specs.Closure.{Rule}
-use Rattle.flags.specs.Members.{set_of}
+use Rattle.flags.specs.Flags.{set_of}
 use Rattle.instant_store.specs.PassBound.{applied, pass, Adds, PassCount, last, more}
 use Rattle.instant_store.specs.RuleBound.{RuleBound}
 use Rattle.flags.proofs.Flags.{flag_member, member_flag, set_cases}
@@ -32,6 +32,21 @@ pass_source (r ∷ rules) store t m = ⊎_elim
     (λ k. inl k))
     (λ (q : Source rules t). inr (q.0, Memᴰ.tail q.1, q.2))
     (pass_source rules (applied r store) t m)
+
+-- fewer members pass a test that rules one out
+module _ {A : Type 0} (f g : A → Bool) where
+  keep_fewer : {x : A} {l : List A} → Memᴰ x l → Within (λ y. g y ≡ true → f y ≡ true) l → f x ≡ true → g x ≡ false → length (keep g l) < length (keep f l)
+  keep_fewer {x} (Memᴰ.head {x = y} {xs = l} e) h p q =
+      let p' : f y ≡ true = rw (← e) p in
+      let q' : g y ≡ false = rw (← e) q in
+      rw (p', q') (omega (arith, keep_more g f l (λ z m. h z (Memᴰ.tail m))))
+  keep_fewer {x} (Memᴰ.tail {x = y} {xs = l} m) h p q = go (g y) refl (f y) refl (keep_fewer m (λ z k. h z (Memᴰ.tail k)) p q)
+    where
+      go : (b : Bool) → g y ≡ b → (c : Bool) → f y ≡ c → length (keep g l) < length (keep f l) → length (keep g (y ∷ l)) < length (keep f (y ∷ l))
+      go true eg true ef lt = rw (eg, ef) (omega arith)
+      go true eg false ef lt = absurd (true_is_false (h y (Memᴰ.head refl) eg) ef)
+      go false eg true ef lt = rw (eg, ef) (omega arith)
+      go false eg false ef lt = rw (eg, ef) lt
 
 -- the rules whose conclusions are out
 abbrev is_open : List Bool → Rule ℕ → Bool

@@ -20,8 +20,7 @@ use Rattle.tcc.specs.Lawful.{Lawful}
 use Rattle.tcc.specs.Store.{Derived, told, by_rule, by_clash, store_rules, closure}
 use Rattle.tcc.proofs.Closure.{Follows}
 use Rattle.tcc.proofs.Store.{store_follows, derived_least, closure_exact}
-use Rattle.flags.specs.Flags.{flags_of}
-use Rattle.flags.specs.Members.{set_of}
+use Rattle.flags.specs.Flags.{set_of, flags_of}
 use Rattle.instant_store.specs.PassBound.{applied, pass, after, PassCount, last, more}
 use Rattle.instant_store.specs.Passes.{Repeated, Flooded}
 use Rattle.flags.proofs.Flags.{flag_member, member_flag, set_kept, set_cases, flags_settled}

@@ -22,6 +22,7 @@ use Rattle.flags.specs.Flags.{flags_of}
 use Rattle.instant_store.specs.PassBound.{applied, pass, PassCount, last, more}
 use Rattle.instant_store.specs.WorstOrder.{link, links, WorstOrder}
 use Rattle.instant_store.proofs.Pass.{applied_brings, applied_keeps, applied_already}
+use Rattle.instant_store.proofs.PassBound.{count_one}
 
 module _ (n : ℕ) where
   unfoldable upper : ℕ → List Bool
@@ -101,4 +102,4 @@ module _ (n : ℕ) where
   worst_count = subst (λ l. PassCount (links n 0 n) l (suc n)) upper_none (links_count n (omega arith))
 
 pub worst_order : WorstOrder
-worst_order = worst_count 256
+worst_order sc passes e h = count_one sc.rules h (subst⁻¹ (λ l. PassCount l (flags_of 256 []) 257) e (worst_count 256))

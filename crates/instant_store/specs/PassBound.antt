@@ -1,11 +1,10 @@
--- "Let it count its passes .. in 16 bits. Each pass but the last is proved to add a token .., so the count never passes
--- 257." A store is kept as flags: flag t says whether token t is in.
+-- "Let it count its passes .. in 16 bits. Each pass but the last is proved to add a token .., so the count never passes 257."
+-- A store is kept as flags: flag t says whether token t is in.
 --     applied        a rule in its turn: its conclusion comes in if all its premises are in
 --     pass           one pass: each rule in its turn, in the score's order
 --     after          the store after n passes
 --     Adds           a token that was out comes in
---     PassCount      how many passes there are: one that adds nothing is the last, one that adds a token is followed by
---                    another
+--     PassCount      how many passes there are: one that adds nothing is the last, one that adds a token is followed by another
 --     OneCount       that number is settled
 --     Bounded        each pass but the last adds a token, and there are at most 257
 --     PassBound      so it is whatever the score and the tokens
@@ -32,19 +31,14 @@ pub record Adds (before later : List Bool) : Type 0 where
 
 pub data PassCount (rules : List (Rule ℕ)) : List Bool → ℕ → Type 0 where
   last : {store : List Bool} → pass rules store ≡ store → PassCount rules store 1
-  more : {store : List Bool} {n : ℕ} → Adds store (pass rules store) → PassCount rules (pass rules store) n →
-      PassCount rules store (suc n)
+  more : {store : List Bool} {n : ℕ} → Adds store (pass rules store) → PassCount rules (pass rules store) n → PassCount rules store (suc n)
 
 abbrev pub OneCount : Type 0
-OneCount =
-    (sc : Score) (tokens : List Bool) (n₁ n₂ : ℕ) → PassCount sc.rules tokens n₁ → PassCount sc.rules tokens n₂ →
-    n₁ ≡ n₂
+OneCount = (sc : Score) (tokens : List Bool) (n₁ n₂ : ℕ) → PassCount sc.rules tokens n₁ → PassCount sc.rules tokens n₂ → n₁ ≡ n₂
 
 pub record Bounded (rules : List (Rule ℕ)) (tokens : List Bool) (passes : ℕ) : Type 0 where
   pub adding : (k : ℕ) → suc k < passes → Adds (after rules k tokens) (after rules (suc k) tokens)
   pub bound : passes ≤ 257
 
 abbrev pub PassBound : Type 0
-PassBound =
-    (sc : Score) (tokens : List Bool) (passes : ℕ) → length tokens ≡ 256 → PassCount sc.rules tokens passes →
-    Bounded sc.rules tokens passes
+PassBound = (sc : Score) (tokens : List Bool) (passes : ℕ) → length tokens ≡ 256 → PassCount sc.rules tokens passes → Bounded sc.rules tokens passes

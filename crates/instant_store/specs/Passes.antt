@@ -1,7 +1,7 @@
 -- Contracts of inner functions: what the parts of the closure do to a store that is kept as flags.
 --     HasFacts       each standing fact is in a store
---     adds           whether a word adds its conclusion, read as a rule with two premises or, if facts are looked for,
---                    as a fact: the conclusion is out, and the premises are in or there are none
+--     adds           whether a word adds its conclusion, read as a rule with two premises or, if facts are looked for, as a
+--                    fact: the conclusion is out, and the premises are in or there are none
 --     Passed         a pass over the rules: what it leaves, and how many tokens it added
 --     Repeated       passes until one adds nothing: how many, and what they leave
 --     Flooded        the tokens below n come in, and no others
@@ -11,16 +11,14 @@ use Rattle.tcc.specs.Closure.{Rule}
 use Rattle.tcc.specs.Score.{Score}
 use Rattle.words.specs.Word.{field}
 use Rattle.format.specs.Format.{is_fact}
-use Rattle.flags.specs.Members.{set_of}
+use Rattle.flags.specs.Flags.{set_of}
 use Rattle.instant_store.specs.PassBound.{pass, after, PassCount}
 
 abbrev pub HasFacts : Score → List Bool → Type 0
 HasFacts sc store = (r : Rule ℕ) → Memᴰ r sc.rules → r.premises ≡ [] → Memᴰ r.conclusion (set_of store)
 
 abbrev pub adds : List Bool → ℕ → Bool → Bool
-adds store w facts =
-    not (get_or store (field w 0 8) false)
-    && ((get_or store (field w 8 8) false && get_or store (field w 16 8) false) || (facts && is_fact w))
+adds store w facts = not (get_or store (field w 0 8) false) && ((get_or store (field w 8 8) false && get_or store (field w 16 8) false) || (facts && is_fact w))
 
 pub record Passed (sc : Score) (before later : List Bool) (added : ℕ) : Type 0 where
   pub made : later ≡ pass sc.rules before

@@ -5,6 +5,4 @@ use Rattle.tcc.specs.Score.{Score}
 use Rattle.instant_store.specs.PassBound.{PassCount}
 
 abbrev pub RuleBound : Type 0
-RuleBound =
-    (sc : Score) (tokens : List Bool) (passes : ℕ) → PassCount sc.rules tokens passes →
-    passes ≤ length sc.rules + 1
+RuleBound = (sc : Score) (tokens : List Bool) (passes : ℕ) → PassCount sc.rules tokens passes → passes ≤ length sc.rules + 1

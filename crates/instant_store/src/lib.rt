@@ -3,8 +3,7 @@ ghost use Rattle.std.specs.Prelude.{◌≡◌, false, ◌+◌, ◌≤◌, length
 ghost use Rattle.tcc.specs.Store.{closure};
 ghost use Rattle.format.specs.Decode.{sizes, decode};
 ghost use Rattle.instant_prepared.specs.Prepared.{PreparedFrom};
-ghost use Rattle.flags.specs.Flags.{flags_of};
-ghost use Rattle.flags.specs.Members.{set_of};
+ghost use Rattle.flags.specs.Flags.{set_of, flags_of};
 ghost use Rattle.instant_store.specs.PassBound.{PassCount};
 ghost use Rattle.instant_store.specs.Passes.{HasFacts, adds, Passed, Repeated, Flooded};
 

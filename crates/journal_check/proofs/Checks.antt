@@ -15,22 +15,20 @@ use native.Mathlib.Numerals.{add-one}
 use native.Mathlib.Omega.{arith}
 use borrow.Author.Tests.{eqb-false}
 use lib.Dec.{eqb}
-use lib.ListN.{length, get_or}
+use lib.ListN.{length, get_or, drop, length-drop}
 use Rattle.laws.proofs.Booleans.{neither}
 use Rattle.tcc.specs.Instant.{start_state, Answer, answer, after}
 use Rattle.words.specs.Word.{words}
 use Rattle.format.specs.Decode.{sizes, decode}
 use Rattle.format.specs.Playable.{Playable}
-use Rattle.lent.specs.States.{state_fault, state_of, as_bytes, instant_number, start_bytes, next_bytes, last_number}
-use Rattle.lent.specs.Lawful.{LawfulState}
+use Rattle.lent.specs.States.{state_fault, state_of, as_bytes, instant_number, start_bytes, next_bytes, last_number, LawfulState}
 use Rattle.lent.proofs.Numbered.{numbered_state, number_round}
 use Rattle.instant_state.specs.declared.Standing.{Standing}
 use Rattle.instant_state.specs.Standing.{state_in}
-use Rattle.instant_state.proofs.Standings.{standing_state}
 use Rattle.journal_form.specs.declared.Form.TheVariants.{Good}
 use Rattle.journal_form.specs.Form.{form_of}
 use Rattle.journal_instants.specs.Instants.{instants_in, inputs_in}
-use Rattle.journal_instants.specs.Parts.{part_from}
+use Rattle.journal_instants.specs.Parts.{part_at}
 use Rattle.journal_instants.proofs.Parts.{instants_end}
 use Rattle.journal_words.specs.History.{entry}
 use Rattle.journal_words.specs.Formed.{Formed}
@@ -38,26 +36,26 @@ use Rattle.journal_words.proofs.Forms.{good_instants}
 use Rattle.journal_step.specs.AnswerIn.{answer_in}
 use Rattle.journal_step.specs.declared.Reply.{Reply}
 use Rattle.journal_step.specs.declared.Reply.TheVariants.{Unlawful, Differs, Accepted}
-use Rattle.journal_step.proofs.Reading.{Reading, reading_none, beyond, beyond_length, Next, reading_next}
+use Rattle.journal_step.proofs.Reading.{Reading, reading_none, Next, reading_next}
 use Rattle.journal_step.proofs.Starts.{start_lawful}
 use Rattle.journal_check.specs.declared.Checked.{Checked}
 use Rattle.journal_check.specs.Check.{same, check_from}
 use Rattle.journal_check.specs.JournalCheckCall.{checked}
 use Rattle.journal_check.specs.Held.{Held}
 
-pub record Checking (score journal : List ℕ) (stands : Standing) (n : ℕ) (rest : List ℕ) : Type 0 where
+pub record Checking (score journal : List ℕ) (stands : Standing) (n at : ℕ) : Type 0 where
   pub state : List ℕ
-  pub whole : checked score journal ≡ check_from score state n (instants_in (words rest))
+  pub whole : checked score journal ≡ check_from score state n (instants_in (words (drop at journal)))
   pub stands_for : state_of state ≡ state_in stands
   pub number_is : instant_number state ≡ n
   pub few : n ≤ last_number
   pub lawful : LawfulState (sizes score).agents (state_in stands)
-  pub counted : n + length rest ≤ length journal
-  pub reading : Reading (sizes score).tokens rest
-  pub formed : (ws : List ℕ) → Memᴰ ws (instants_in (words rest)) → Formed (sizes score).tokens ws
+  pub counted : n ≤ at
+  pub reading : Reading (sizes score).tokens journal at
+  pub formed : (ws : List ℕ) → Memᴰ ws (instants_in (words (drop at journal))) → Formed (sizes score).tokens ws
 
 pub checking_none : (score journal : List ℕ) (stands : Standing) → Playable score → form_of true (sizes score).tokens journal ≡ Good → ((i : ℕ) → get_or journal i 0 < 2 ^ 8) →
-    state_in stands ≡ state_of (as_bytes (start_state (decode score))) → Checking score journal stands 0 journal
+    state_in stands ≡ state_of (as_bytes (start_state (decode score))) → Checking score journal stands 0 0
 checking_none score journal stands p good small e = record {
   state = start_bytes (decode score);
   whole = refl;
@@ -70,18 +68,18 @@ checking_none score journal stands p good small e = record {
   formed = λ ws m. (good_instants true (sizes score).tokens journal good small ws m).formed;
 }
 
-pub checking_end : {score journal : List ℕ} {stands : Standing} {n : ℕ} {rest : List ℕ} → Checking score journal stands n rest → length rest ≤ 0 → Accepted n ≡ checked score journal
+pub checking_end : {score journal : List ℕ} {stands : Standing} {n at : ℕ} → Checking score journal stands n at → length journal ≤ at → Accepted n ≡ checked score journal
 unfolding check_from
-checking_end {score} {n = n} {rest = rest} c le = sym (c.whole ∙ ap (check_from score c.state n) (instants_end rest (omega arith)))
+checking_end {score} {journal} {n = n} {at = at} c le = sym (c.whole ∙ ap (check_from score c.state n) (instants_end (drop at journal) (omega (arith, length-drop at journal))))
 
-pub record Turn (score journal : List ℕ) (stands : Standing) (n : ℕ) (rest here : List ℕ) : Type 0 where
-  pub checking : Checking score journal stands n rest
-  pub not_end : 0 < length rest
-  pub is : here ≡ part_from rest
+pub record Turn (score journal : List ℕ) (stands : Standing) (n at : ℕ) (here : List ℕ) : Type 0 where
+  pub checking : Checking score journal stands n at
+  pub not_end : at < length journal
+  pub is : here ≡ part_at Good journal at
 
-module _ {score journal : List ℕ} {stands : Standing} {n : ℕ} {rest here : List ℕ} (t : Turn score journal stands n rest here) where
-  pub next : Next (sizes score).tokens rest here
-  next = subst⁻¹ (Next (sizes score).tokens rest) t.is (reading_next (sizes score).tokens rest t.checking.reading t.not_end)
+module _ {score journal : List ℕ} {stands : Standing} {n at : ℕ} {here : List ℕ} (t : Turn score journal stands n at here) where
+  pub next : Next (sizes score).tokens journal at here
+  next = subst⁻¹ (Next (sizes score).tokens journal at) t.is (reading_next (sizes score).tokens journal at t.checking.reading t.not_end)
 
   pub first_formed : Formed (sizes score).tokens (words here)
   first_formed = t.checking.formed (words here) (subst⁻¹ (Memᴰ (words here)) next.instants (Memᴰ.head refl))
@@ -93,7 +91,7 @@ module _ {score journal : List ℕ} {stands : Standing} {n : ℕ} {rest here : L
   right = not (eqb n last_number) && same (words here) (entry (decode score) (inputs_in (words here)) now)
 
   abbrev later : Reply
-  later = check_from score (next_bytes t.checking.state now) (suc n) (instants_in (words (beyond rest here)))
+  later = check_from score (next_bytes t.checking.state now) (suc n) (instants_in (words (drop (at + length here) journal)))
 
   from_here : checked score journal ≡ cond (state_fault (sizes score).agents (as_bytes (after now))) Unlawful (cond right later (Differs n))
   unfolding check_from answer_in
@@ -103,7 +101,7 @@ module _ {score journal : List ℕ} {stands : Standing} {n : ℕ} {rest here : L
       (λ st m.
       let x = answer (decode score) st (inputs_in (words here)) in
       cond (state_fault (sizes score).agents (as_bytes (after x))) Unlawful
-      (cond (not (eqb m last_number) && same (words here) (entry (decode score) (inputs_in (words here)) x)) (check_from score (next_bytes t.checking.state x) (suc n) (instants_in (words (beyond rest here)))) (Differs n)))
+      (cond (not (eqb m last_number) && same (words here) (entry (decode score) (inputs_in (words here)) x)) (check_from score (next_bytes t.checking.state x) (suc n) (instants_in (words (drop (at + length here) journal)))) (Differs n)))
       t.checking.stands_for t.checking.number_is
 
   module _ (c : Checked) (h : Held score now (words here) c) where
@@ -125,18 +123,18 @@ module _ {score journal : List ℕ} {stands : Standing} {n : ℕ} {rest here : L
     pub checking_differs : c.unlawful ≡ false → (c.differs || eqb n last_number) ≡ true → Differs n ≡ checked score journal
     checking_differs u d = sym (by_fault false u ∙ ap (λ x. cond x later (Differs n)) (right_is true d))
 
-    pub checking_more : c.unlawful ≡ false → (c.differs || eqb n last_number) ≡ false → Checking score journal c.standing (n + 1) (beyond rest here)
+    pub checking_more : c.unlawful ≡ false → (c.differs || eqb n last_number) ≡ false → Checking score journal c.standing (n + 1) (at + length here)
     checking_more u d = record {
       state = next_bytes t.checking.state now;
       whole =
           by_fault false u
           ∙ ap (λ x. cond x later (Differs n)) (right_is false d)
-          ∙ ap (λ k. check_from score (next_bytes t.checking.state now) k (instants_in (words (beyond rest here)))) (sym (add-one n));
-      stands_for = numbered_state (after now) (suc (instant_number t.checking.state)) ∙ sym (ap state_in h.standing_is ∙ standing_state (as_bytes (after now)));
+          ∙ ap (λ k. check_from score (next_bytes t.checking.state now) k (instants_in (words (drop (at + length here) journal)))) (sym (add-one n));
+      stands_for = numbered_state (after now) (suc (instant_number t.checking.state)) ∙ sym h.stands;
       number_is = number_round (after now) (suc (instant_number t.checking.state)) (omega (arith, below, t.checking.number_is)) ∙ omega (arith, t.checking.number_is);
       few = omega (arith, below);
       lawful = h.lawful;
-      counted = omega (arith, next.some, next.fits, beyond_length rest here, t.checking.counted);
+      counted = omega (arith, next.some, t.checking.counted);
       reading = next.follows;
       formed = λ ws m. t.checking.formed ws (subst⁻¹ (Memᴰ ws) next.instants (Memᴰ.tail m));
     }

@@ -7,8 +7,8 @@ use Prim.Native.Nat.{ℕ}
 use Rattle.tcc.specs.Instant.{State, Answer, answer}
 use Rattle.format.specs.Decode.{sizes, decode}
 use Rattle.format.specs.Playable.{Playable}
-use Rattle.flags.specs.Members.{set_of}
-use Rattle.lent.specs.Lawful.{LawfulState}
+use Rattle.flags.specs.Flags.{set_of}
+use Rattle.lent.specs.States.{LawfulState}
 use Rattle.instant_state.specs.Standing.{state_in}
 use Rattle.journal_instants.specs.Instants.{inputs_in}
 use Rattle.journal_words.specs.History.{instant_words, entry}
@@ -29,6 +29,6 @@ module _ (score : List ℕ) (p : Playable score) (st : State) (ws : List ℕ) (t
   held c u d stands = subst (λ l. Held score (answer (decode score) st l) ws c) set (record {
     unlawful_is = u ∙ is.unlawful_is;
     differs_is = d ∙ ap (λ l. not (same ws l)) (ap (λ l. instant_words s.status l (set_of s.out)) (sym set) ∙ words_are score p st (set_of told) is ∙ ap (λ l. entry (decode score) l a) set);
-    standing_is = stands ∙ is.standing_is;
+    stands = ap state_in stands ∙ is.stands;
     lawful = subst⁻¹ (λ x. LawfulState (sizes score).agents (state_in x)) stands is.lawful;
   })

@@ -1,5 +1,4 @@
 pub mod Exact
-pub mod Past
 pub mod Others
 pub mod Holds
 pub mod Checks

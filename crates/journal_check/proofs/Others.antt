@@ -15,8 +15,7 @@ use lib.ListN.{length, get_or}
 use lib.Seq.{ext_get_or}
 use Rattle.laws.proofs.Booleans.{true_is_false, neither}
 use Rattle.words.specs.Word.{field}
-use Rattle.flags.specs.Flags.{flags_of}
-use Rattle.flags.specs.Members.{set_of}
+use Rattle.flags.specs.Flags.{set_of, flags_of}
 use Rattle.flags.proofs.Flags.{flags_settled}
 use Rattle.journal_form.specs.Form.{status_in}
 use Rattle.journal_instants.specs.Instants.{tokens_of, inputs_in}

@@ -1,9 +1,9 @@
--- The instants of a journal, one after the other, each held against what the run writes from the state that the one
--- before left.
+-- The instants of a journal, one after the other, each held against what the run writes from the state that the one before
+-- left.
 --     same           words are the same
 --     check_from     a journal check, from a state, where so many instants have been read: 11, 14 at the first instant
---                    that is not what the run writes, or accepted with the instants read. A run writes no instant at
---                    the last number: "a journal check answers 14 there" (W7)
+--                    that is not what the run writes, or accepted with the instants read. A run writes no instant at the
+--                    last number: "a journal check answers 14 there" (W7)
 use Rattle.std.specs.Prelude.{Bool, true, false, cond, not, ◌&&◌, List, [], ◌∷◌, ℕ, suc, eqb}
 use Rattle.tcc.specs.Instant.{after}
 use Rattle.format.specs.Decode.{sizes, decode}

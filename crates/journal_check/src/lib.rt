@@ -4,9 +4,9 @@ ghost use Rattle.tcc.specs.Instant.{answer};
 ghost use Rattle.words.specs.Word.{words};
 ghost use Rattle.instant_prepared.specs.Prepared.{PreparedFrom};
 ghost use Rattle.format.specs.Decode.{sizes, decode};
-ghost use Rattle.flags.specs.Members.{set_of};
+ghost use Rattle.flags.specs.Flags.{set_of};
 ghost use Rattle.lent.specs.Lengths.{no_scratch};
-ghost use Rattle.lent.specs.Lawful.{LawfulState};
+ghost use Rattle.lent.specs.States.{LawfulState};
 ghost use Rattle.instant_state.specs.Standing.{state_in};
 ghost use Rattle.journal_form.specs.declared.Form.TheVariants.{Good};
 ghost use Rattle.journal_form.specs.Form.{form_of};
@@ -66,9 +66,9 @@ fn check_list(score: &[u8], prepared: &Prepared, journal: &[u8], scratch: &mut [
 {
     let mut stands = journal_step::start(score, prepared);
     let mut instants = 0;
-    let mut rest = journal;
-    while 0 < rest.len() {
-        let here = journal_instants::first_part(rest);
+    let mut at = 0;
+    while at < journal.len() {
+        let here = journal_instants::part(journal, Form::Good, at);
         let checked = check_instant(score, prepared, stands, here, scratch);
         if checked.unlawful {
             return Reply::Unlawful;
@@ -78,7 +78,7 @@ fn check_list(score: &[u8], prepared: &Prepared, journal: &[u8], scratch: &mut [
         }
         stands = checked.standing;
         instants += 1;
-        rest = &rest[here.len()..];
+        at += here.len();
     }
     Reply::Accepted(instants)
 }

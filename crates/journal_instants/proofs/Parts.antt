@@ -12,6 +12,8 @@
 --     part_starts      the rest has no words or starts with an instant word
 --     starts_some      so it starts with one, if it has a word
 --     instants_end     bytes without a word have no instants
+--     part_on, part_off, part_past     the part from a position on: of a good form, where a word starts; where none does; past the end
+--     part_bytes, part_word            of another form
 --     good_starts      bytes of a good form have no words or start with an instant word
 --     good_four        and are a multiple of 4
 use mathlib.Core.Path.{◌≡◌, refl, sym, ap, ap₂, ◌∙◌}
@@ -19,11 +21,11 @@ use mathlib.Core.Bool.{Bool, true, false, cond, ◌&&◌, ◌||◌, and-false}
 use mathlib.Core.List.{List, [], ◌∷◌}
 use mathlib.Core.Logic.{◌⊎◌, inl, inr}
 use Prim.Native.Nat.{ℕ, zero, suc, min, ◌+◌, ◌*◌, ◌%◌, ◌<◌, ◌≤◌}
-use borrow.Author.Tests.{eqb-true}
+use borrow.Author.Tests.{eqb-true, ne_eqb}
 use native.Mathlib.Numerals.{add-one}
 use native.Mathlib.Omega.{arith}
 use lib.Dec.{eqb, ltb}
-use lib.ListN.{length, get_or, take, drop, length-drop}
+use lib.ListN.{length, get_or, take, drop, length-drop, drop_of_length-le}
 use lib.Seq.{length-take-le, drop-cons}
 use Rattle.laws.proofs.Booleans.{true_is_false, and_both}
 use Rattle.words.specs.Word.{words, word_at, field}
@@ -32,8 +34,8 @@ use Rattle.format.specs.Format.{is_word}
 use Rattle.journal_form.specs.declared.Form.{Form}
 use Rattle.journal_form.specs.declared.Form.TheVariants.{Good, Bytes, Word}
 use Rattle.journal_form.specs.Form.{token_of, is_instant, may_follow, first_against, form_of}
-use Rattle.journal_instants.specs.Instants.{up_to, instants_in, span}
-use Rattle.journal_instants.specs.Parts.{part_from}
+use Rattle.journal_instants.specs.Instants.{up_to, instants_in}
+use Rattle.journal_instants.specs.Parts.{span, part_from, part_at}
 
 -- ---- words
 
@@ -169,6 +171,29 @@ instants_end bytes h = go (words bytes) (omega (arith, words_length bytes))
     go : (ws : List ℕ) → length ws ≡ 0 → instants_in ws ≡ []
     go [] e = refl
     go (w ∷ ws) e = absurd (omega arith)
+
+-- ---- the part from a position on
+
+module _ (bytes : List ℕ) (at : ℕ) where
+  pub part_on : {form : Form} → form ≡ Good → at % 4 ≡ 0 → part_from (drop at bytes) ≡ part_at form bytes at
+  unfolding part_at
+  part_on e h = rw (e, h)
+
+  pub part_off : {form : Form} → form ≡ Good → (at % 4 ≡ 0 → ⊥) → [] ≡ part_at form bytes at
+  unfolding part_at
+  part_off e h = rw (e, ne_eqb (at % 4) 0 h)
+
+  pub part_past : {form : Form} → form ≡ Good → at % 4 ≡ 0 → length bytes < at → [] ≡ part_at form bytes at
+  unfolding words
+  part_past e h l = let le : length bytes ≤ at = omega arith in sym (ap part_from (drop_of_length-le bytes le)) ∙ part_on e h
+
+  pub part_bytes : {form : Form} → form ≡ Bytes → [] ≡ part_at form bytes at
+  unfolding part_at
+  part_bytes e = rw e
+
+  pub part_word : {form : Form} {k : ℕ} → form ≡ Word k → [] ≡ part_at form bytes at
+  unfolding part_at
+  part_word e = rw e
 
 -- ---- a good form
 

@@ -19,8 +19,7 @@ use lib.Seq.{take-suc, take_all}
 use Rattle.laws.specs.Sets.{Same, keep}
 use Rattle.laws.proofs.Sets.{on_cons, on_append, keep_append}
 use Rattle.words.specs.Word.{kind}
-use Rattle.flags.specs.Flags.{flags_of}
-use Rattle.flags.specs.Members.{set_of}
+use Rattle.flags.specs.Flags.{set_of, flags_of}
 use Rattle.flags.proofs.Flags.{set_kept, set_here, set_cases, set_of_none, flags_of_length, flags_of_member, member_flags_of, flags_settled, flags_of_same}
 use Rattle.journal_form.specs.Form.{token_of}
 use Rattle.journal_instants.specs.Instants.{tokens_of}

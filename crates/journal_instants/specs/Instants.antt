@@ -1,11 +1,10 @@
 -- "Each instant lasts until the next kind 12 word or the end."
 --     up_to             the words before the next instant word, or all
---     span             how many words from the first on, up to the next instant word
 --     instants_in      the words of each instant
 --     tokens_of        the tokens of the words of a kind, in their order
 --     inputs_in        the input tokens of an instant
 --     input_lists      the input tokens of each instant of a list or journal, given its bytes
-use Rattle.std.specs.Prelude.{cond, List, [], ◌∷◌, map, ℕ, suc, eqb, length}
+use Rattle.std.specs.Prelude.{cond, List, [], ◌∷◌, map, ℕ, eqb}
 use Rattle.laws.specs.Sets.{keep}
 use Rattle.words.specs.Word.{words, kind}
 use Rattle.journal_form.specs.Form.{token_of, is_instant}
@@ -13,10 +12,6 @@ use Rattle.journal_form.specs.Form.{token_of, is_instant}
 unfoldable pub up_to : List ℕ → List ℕ
 up_to [] = []
 up_to (w ∷ ws) = cond (is_instant w) [] (w ∷ up_to ws)
-
-abbrev pub span : List ℕ → ℕ
-span [] = 0
-span (w ∷ ws) = suc (length (up_to ws))
 
 unfoldable pub instants_in : List ℕ → List (List ℕ)
 instants_in [] = []

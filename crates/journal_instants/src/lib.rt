@@ -2,13 +2,33 @@
 ghost use Rattle.std.specs.Prelude.{◌≡◌, ◌*◌};
 ghost use Rattle.words.specs.Word.{words};
 ghost use Rattle.flags.specs.Flags.{flags_of};
-ghost use Rattle.journal_instants.specs.Instants.{tokens_of, span};
-ghost use Rattle.journal_instants.specs.Parts.{part_from};
+ghost use Rattle.journal_instants.specs.Instants.{tokens_of};
+ghost use Rattle.journal_instants.specs.Parts.{span, part_from, part_at};
 
 use flags::Tokens;
+use journal_form::Form;
 
-// The first part of bytes: up to the next instant word or the end.
-pub fn first_part(bytes: &[u8]) -> &[u8]
+// The part of a journal's bytes from a position to the next instant word or the end; empty where the form is against it.
+pub fn part(bytes: &[u8], form: Form, at: usize) -> &[u8]
+    ensures { result.now ≡ part_at form bytes.now at }
+{
+    match form {
+        Form::Good => {
+            if at % 4 != 0 {
+                return &bytes[0..0];
+            }
+            if bytes.len() < at {
+                return &bytes[0..0];
+            }
+            first_part(&bytes[at..])
+        }
+        Form::Bytes => &bytes[0..0],
+        Form::Word(_) => &bytes[0..0],
+    }
+}
+
+// The first part of bytes.
+fn first_part(bytes: &[u8]) -> &[u8]
     ensures { result.now ≡ part_from bytes.now }
 {
     let end = span_of(bytes);

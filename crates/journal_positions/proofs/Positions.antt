@@ -1,8 +1,7 @@
 -- Laws of a reader's positions.
 --     start_good, start_bytes_lem, start_word  where it starts, by the form
 --     start_of_lem     and of a journal
---     part_on, part_off, part_past     what is shown at a position: the first part from there on, where a word starts; nothing
---                                      where none does; nothing past the end
+--     size_part        what is shown at a position is the journal's part there
 --     size_fits        it is within the bytes
 --     size_shown       its length
 --     place_here       where nothing is shown, a reader stays
@@ -13,16 +12,14 @@ use mathlib.Core.Bool.{Bool, true, false, cond}
 use mathlib.Core.List.{List, []}
 use Prim.Native.Nat.{ℕ, zero, suc, ◌+◌, ◌*◌, ◌-◌, ◌%◌, ◌<◌, ◌≤◌}
 use native.Mathlib.Omega.{arith}
-use borrow.Author.Tests.{eq-eqb, ne_eqb}
 use lib.Dec.{eqb}
-use lib.ListN.{length, take, drop, length-drop, drop_of_length-le}
+use lib.ListN.{length, take, drop, length-drop}
 use lib.Seq.{length-take-le}
 use Rattle.words.specs.Word.{words}
 use Rattle.journal_form.specs.declared.Form.{Form}
 use Rattle.journal_form.specs.declared.Form.TheVariants.{Good, Bytes, Word}
 use Rattle.journal_form.specs.Form.{form_of}
-use Rattle.journal_instants.specs.Parts.{part_from}
-use Rattle.journal_instants.specs.Instants.{span}
+use Rattle.journal_instants.specs.Parts.{span, part_from, part_at}
 use Rattle.journal_instants.proofs.Parts.{span_fits}
 use Rattle.journal_positions.specs.Positions.{start_by, start_of, size_at, place_after}
 
@@ -44,19 +41,13 @@ module _ (bytes : List ℕ) where
   start_of_lem tokens e = ap (λ f. start_by f bytes) e
 
 module _ (bytes : List ℕ) (at : ℕ) where
-  size_by : {b : Bool} → eqb (at % 4) 0 ≡ b → cond b (4 * span (words (drop at bytes))) 0 ≡ size_at bytes at
-  unfolding size_at
-  size_by e = ap (λ b. cond b (4 * span (words (drop at bytes))) 0) (sym e)
-
-  pub part_on : at % 4 ≡ 0 → part_from (drop at bytes) ≡ take (size_at bytes at) (drop at bytes)
-  part_on h = ap (λ n. take n (drop at bytes)) (size_by (eq-eqb (at % 4) 0 h))
-
-  pub part_off : (at % 4 ≡ 0 → ⊥) → [] ≡ take (size_at bytes at) (drop at bytes)
-  part_off h = ap (λ n. take n (drop at bytes)) (size_by (ne_eqb (at % 4) 0 h))
-
-  pub part_past : at % 4 ≡ 0 → length bytes < at → [] ≡ take (size_at bytes at) (drop at bytes)
-  unfolding words
-  part_past h l = let le : length bytes ≤ at = omega arith in sym (ap part_from (drop_of_length-le bytes le)) ∙ part_on h
+  pub size_part : part_at Good bytes at ≡ take (size_at bytes at) (drop at bytes)
+  unfolding part_at size_at
+  size_part = go (eqb (at % 4) 0)
+    where
+      go : (b : Bool) → cond b (part_from (drop at bytes)) [] ≡ take (cond b (4 * span (words (drop at bytes))) 0) (drop at bytes)
+      go true = refl
+      go false = refl
 
   pub size_fits : size_at bytes at ≤ length bytes - at
   unfolding size_at

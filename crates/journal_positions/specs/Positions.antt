@@ -1,8 +1,6 @@
--- Where the instants of a journal stand in its bytes: a reader of it "shows each instant's words as a part of the
--- journal's own bytes, uncopied, and past the last instant an empty part; a journal that meets 12 or 13 is turned down
--- so, with an empty part."
---     start_by, start_of     where a reader starts: at the first instant, or past the last where the journal is against
---                          its form
+-- Where the instants of a journal stand in its bytes: a reader of it "shows each instant's words as a part of the journal's own
+-- bytes, uncopied, and past the last instant an empty part; a journal that meets 12 or 13 is turned down so, with an empty part."
+--     start_by, start_of     where a reader starts: at the first instant, or past the last where the journal is against its form
 --     size_at         how many bytes it shows at a position: up to the next instant word or the end
 --     shown_at       what it shows there
 --     place_after    the position so many instants further on
@@ -12,7 +10,7 @@ use Rattle.words.specs.Word.{words}
 use Rattle.journal_form.specs.declared.Form.{Form}
 use Rattle.journal_form.specs.declared.Form.TheVariants.{Good, Bytes, Word}
 use Rattle.journal_form.specs.Form.{form_of}
-use Rattle.journal_instants.specs.Instants.{span}
+use Rattle.journal_instants.specs.Parts.{span}
 
 abbrev pub start_by : Form → List ℕ → ℕ
 start_by Good bytes = 0

@@ -24,17 +24,11 @@ pub fn start_of(journal: &[u8], form: Form) -> usize
     }
 }
 
-// The part at a position: up to the next instant word or the end; none where no word starts, or past the end.
+// The part at a position: up to the next instant word or the end.
 pub fn part_at(journal: &[u8], at: usize) -> &[u8]
     ensures { result.now ≡ take (size_at journal.now at) (drop at journal.now) }
 {
-    if at % 4 != 0 {
-        return &journal[0..0];
-    }
-    if journal.len() < at {
-        return &journal[0..0];
-    }
-    journal_instants::first_part(&journal[at..])
+    journal_instants::part(journal, Form::Good, at)
 }
 
 // The position so many instants further on.

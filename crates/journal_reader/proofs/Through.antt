@@ -14,7 +14,8 @@ use Rattle.words.specs.Word.{words, word_at}
 use Rattle.journal_form.specs.declared.Form.{Form}
 use Rattle.journal_form.specs.declared.Form.TheVariants.{Good, Bytes, Word}
 use Rattle.journal_form.specs.Form.{is_instant, form_of}
-use Rattle.journal_instants.specs.Instants.{instants_in, span}
+use Rattle.journal_instants.specs.Instants.{instants_in}
+use Rattle.journal_instants.specs.Parts.{span}
 use Rattle.journal_instants.proofs.Parts.{instants_step, instants_end, part_starts, span_positive, starts_some, good_starts, good_four}
 use Rattle.journal_positions.specs.Positions.{start_of, size_at, shown_at, place_after}
 use Rattle.journal_positions.proofs.Positions.{start_good, start_of_lem, size_fits, size_shown, place_here}

@@ -1,7 +1,7 @@
--- "A journal reader shows each instant's words as a part of the journal's own bytes, uncopied, and past the last
--- instant an empty part; a journal that meets 12 or 13 is turned down so, with an empty part." By which of the two, its
--- form says: "list or journal bytes not a multiple of 4", number 12; "list or journal word against its form, or token T
--- or above", number 13 and the word.
+-- "A journal reader shows each instant's words as a part of the journal's own bytes, uncopied, and past the last instant an
+-- empty part; a journal that meets 12 or 13 is turned down so, with an empty part." By which of the two, its form says: "list
+-- or journal bytes not a multiple of 4", number 12; "list or journal word against its form, or token T or above", number 13
+-- and the word.
 --     form_number, word_of     the number by which a form is turned down, and the word; 0 where there is none
 --     reader_at      a reader of a journal at a position, with the journal's form
 --     made           the reader that is made of a journal

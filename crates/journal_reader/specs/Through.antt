@@ -1,16 +1,14 @@
 -- Going through a journal with a reader.
---     showing        what a reader shows, as the contract of `shown` says; of `moved_by k (made tokens journal)` it is
---                    what `instant` gives
+--     showing        what a reader shows, as the contract of `shown` says; of `moved_by k (made tokens journal)` it is what `instant` gives
 --     through        what it shows as it is moved on from instant to instant
 --     Along          a reader goes along bytes
---     GoesThrough    a journal of good form: its instants, exactly and in order; their parts put together are the
---                    journal; past the last an empty part
+--     GoesThrough    a journal of good form: its instants, exactly and in order; their parts put together are the journal;
+--                    past the last an empty part
 --     Against        word k is the lowest word against its form; a given word stands before the first
 --     Meets          bytes meet the number 12, or 13 with a word: the table's rows
---     Turned         a reader turns its journal down: with an empty part, and by the number and the word that the
---                    journal meets
---     TurnedDown     a reader's form is its journal's, however far it is moved on, so that it is good of a journal of
---                    good form alone, which `GoesThrough` speaks of; and any other journal is turned down
+--     Turned         a reader turns its journal down: with an empty part, and by the number and the word that the journal meets
+--     TurnedDown     a reader's form is its journal's, however far it is moved on, so that it is good of a journal of good form
+--                    alone, which `GoesThrough` speaks of; and any other journal is turned down
 use Rattle.std.specs.Prelude.{◌≡◌, true, false, ℕ, zero, suc, ◌%◌, ◌<◌, ◌≤◌, length, get_or}
 use mathlib.Core.List.{List, [], ◌∷◌, map, flatten}
 use Rattle.std.specs.Borrow.{Bor}
@@ -38,9 +36,7 @@ pub record Along (n : ℕ) (r : Reader) (bytes : List ℕ) : Type 0 where
   pub past : (k : ℕ) → n ≤ k → showing (moved_by k r) ≡ []
 
 abbrev pub GoesThrough : Type 0
-GoesThrough =
-    (tokens : ℕ) (journal : Bor (List ℕ)) → form_of true tokens journal.now ≡ Good →
-    Along (length (instants_in (words journal.now))) (made tokens journal) journal.now
+GoesThrough = (tokens : ℕ) (journal : Bor (List ℕ)) → form_of true tokens journal.now ≡ Good → Along (length (instants_in (words journal.now))) (made tokens journal) journal.now
 
 pub record Against (tokens last : ℕ) (ws : List ℕ) (k : ℕ) : Type 0 where
   pub within : k < length ws

@@ -1,3 +1,2 @@
 pub mod RunExits
 pub mod Replies
-pub mod SameTests

@@ -26,8 +26,7 @@ use Rattle.journal_step.specs.declared.Reply.TheVariants.{Score as Turned, Lengt
 use Rattle.journal_step.specs.ByForm.{by_form}
 use Rattle.journal_step.proofs.ByForm.{by_form_lem}
 use Rattle.journal_run_list.specs.Run.{Ran, run_from}
-use Rattle.journal_run.specs.RunCall.{Lent, lent, Exit, length_fault, kept, ended, exit}
-use Rattle.journal_run.specs.Left.{LeftBy}
+use Rattle.journal_run.specs.RunCall.{Lent, lent, Exit, length_fault, kept, ended, exit, LeftBy}
 
 module _ (score inputs : List ℕ) (l : Lent) where
   abbrev ran : Ran

@@ -1,2 +1,1 @@
 pub mod RunCall
-pub mod Left

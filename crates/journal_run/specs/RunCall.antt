@@ -5,6 +5,7 @@
 --     kept             a refusal: all as it was
 --     ended            the instants before the end written, the journal beyond them as it was, the state after them
 --     exit             the whole call
+--     LeftBy           what its last part leaves
 --     RunCall          its contract
 use Rattle.std.specs.Prelude.{◌≡◌, Bool, false, cond, not, ◌||◌, List, ◌++◌, ℕ, ◌*◌, eqb, length, drop}
 use Rattle.format.specs.Decode.{sizes}
@@ -16,8 +17,7 @@ use Rattle.lent.specs.States.{state_fault}
 use Rattle.journal_form.specs.Form.{form_of}
 use Rattle.journal_instants.specs.Instants.{input_lists}
 use Rattle.journal_step.specs.declared.Reply.{Reply}
-use Rattle.journal_step.specs.declared.Reply.TheVariants.{Score as Turned, Lengths, State, Unlawful}
-use Rattle.journal_step.specs.declared.Reply.TheVariants.{Full, Last as Past, Accepted}
+use Rattle.journal_step.specs.declared.Reply.TheVariants.{Score as Turned, Lengths, State, Unlawful, Full, Last as Past, Accepted}
 use Rattle.journal_step.specs.ByForm.{by_form}
 use Rattle.journal_run_list.specs.declared.Stop.{Stop}
 use Rattle.journal_run_list.specs.declared.Stop.TheVariants.{Not, Next, Last, Room}
@@ -62,6 +62,12 @@ exit score inputs l =
     (cond (state_fault (sizes score).agents l.state) (kept l State)
     (by_form (form_of false (sizes score).tokens inputs) (kept l)
     (ended l (run_from score l.state (length l.journal) (input_lists inputs))))))
+
+-- what a run of a list of good form leaves in the state and in the journal, and its reply
+pub record LeftBy (r : Ran) (before state' journal' : List ℕ) (reply : Reply) : Type 0 where
+  pub state_is : state' ≡ r.state
+  pub journal_is : journal' ≡ bytes_of r.words ++ drop (4 * length r.words) before
+  pub reply_is : reply ≡ ending r.stop r.instants
 
 -- the call's contract: over the score, the input list, the buffers before and after, and the reply
 pub record RunCall (score inputs : List ℕ) (before after : Lent) (reply : Reply) : Type 0 where

@@ -3,15 +3,13 @@ ghost use Rattle.std.specs.Prelude.{◌≡◌, false, cond, not, ◌||◌, eqb, 
 ghost use Rattle.instant_prepared.specs.Prepared.{PreparedFrom};
 ghost use Rattle.format.specs.Decode.{sizes};
 ghost use Rattle.lent.specs.Lengths.{state_bytes, scratch_bytes, no_scratch};
-ghost use Rattle.lent.specs.States.{state_fault, numbered};
-ghost use Rattle.lent.specs.Lawful.{LawfulState};
+ghost use Rattle.lent.specs.States.{state_fault, numbered, LawfulState};
 ghost use Rattle.instant_state.specs.Standing.{state_in};
 ghost use Rattle.journal_form.specs.declared.Form.TheVariants.{Good};
 ghost use Rattle.journal_form.specs.Form.{form_of};
 ghost use Rattle.journal_instants.specs.Instants.{input_lists};
 ghost use Rattle.journal_run_list.specs.Run.{run_from};
-ghost use Rattle.journal_run.specs.RunCall.{lent, ending, RunCall};
-ghost use Rattle.journal_run.specs.Left.{LeftBy};
+ghost use Rattle.journal_run.specs.RunCall.{lent, ending, LeftBy, RunCall};
 
 use instant_prepared::Prepared;
 use journal_form::Form;

@@ -21,12 +21,9 @@ use Rattle.tcc.specs.Instant.{Answer, answer, after}
 use Rattle.format.specs.Decode.{sizes, decode}
 use Rattle.bits.specs.Bits.{bytes_of}
 use Rattle.bits.proofs.Bytes.{bytes_of_length, bytes_of_append, put_front}
-use Rattle.lent.specs.States.{state_of, as_bytes, instant_number, numbered, next_bytes, last_number}
-use Rattle.lent.proofs.SameState.{SameState}
-use Rattle.lent.specs.Lawful.{LawfulState}
-use Rattle.lent.proofs.Numbered.{numbered_same, number_round}
-use Rattle.instant_state.specs.Standing.{state_in, standing_in}
-use Rattle.instant_state.proofs.Standings.{standing_state, standing_numbered}
+use Rattle.lent.specs.States.{state_of, as_bytes, instant_number, numbered, next_bytes, last_number, LawfulState, SameState}
+use Rattle.lent.proofs.Numbered.{numbered_state, numbered_same, number_round}
+use Rattle.instant_state.specs.Standing.{state_in}
 use Rattle.instant_state.specs.declared.Standing.{Standing}
 use Rattle.journal_instants.specs.Instants.{input_lists}
 use Rattle.journal_words.specs.History.{entry}
@@ -41,14 +38,14 @@ use Rattle.journal_run_list.specs.Advance.{Advanced, RanTo}
 abbrev pub behind : List ℕ → ℕ → Ran → Ran
 behind ws n r = record { words = ws ++ r.words; state = r.state; instants = n + r.instants; stop = r.stop }
 
-pub record Half (score inputs s₀ j₀ journal : List ℕ) (stands : Standing) (number n : ℕ) (rest : List ℕ) (filled : ℕ) : Type 0 where
+pub record Half (score inputs s₀ j₀ journal : List ℕ) (stands : Standing) (number n at filled : ℕ) : Type 0 where
   pub words : List ℕ
   pub state : List ℕ
-  pub whole : run_from score s₀ (length j₀) (input_lists inputs) ≡ behind words n (run_from score state (length j₀ - filled) (input_lists rest))
+  pub whole : run_from score s₀ (length j₀) (input_lists inputs) ≡ behind words n (run_from score state (length j₀ - filled) (input_lists (drop at inputs)))
   pub filled_is : filled ≡ 4 * length words
   pub journal_is : journal ≡ bytes_of words ++ drop (4 * length words) j₀
-  pub standing_is : stands ≡ standing_in state
-  pub number_is : number ≡ instant_number state
+  pub stands_for : state_of state ≡ state_in stands
+  pub number_is : instant_number state ≡ number
   pub state_is : state ≡ cond (eqb n 0) s₀ (numbered (state_in stands) number)
 
 behind_none : (r : Ran) → r ≡ behind [] 0 r
@@ -56,11 +53,11 @@ behind_none r =
     let i : r.instants ≡ 0 + r.instants = omega arith in
     λ k. record { words = r.words; state = r.state; instants = i k; stop = r.stop }
 
-pub half_none : (score inputs s₀ j₀ : List ℕ) (stands : Standing) (number : ℕ) → stands ≡ standing_in s₀ → number ≡ instant_number s₀ → Half score inputs s₀ j₀ j₀ stands number 0 inputs 0
+pub half_none : (score inputs s₀ j₀ : List ℕ) (stands : Standing) (number : ℕ) → state_of s₀ ≡ state_in stands → instant_number s₀ ≡ number → Half score inputs s₀ j₀ j₀ stands number 0 0 0
 unfolding bytes_of
 half_none score inputs s₀ j₀ stands number e m =
     let z : length j₀ ≡ length j₀ - 0 = omega arith in
-    record { words = []; state = s₀; whole = ap (λ m. run_from score s₀ m (input_lists inputs)) z ∙ behind_none _; filled_is = refl; journal_is = refl; standing_is = e; number_is = m; state_is = refl }
+    record { words = []; state = s₀; whole = ap (λ m. run_from score s₀ m (input_lists inputs)) z ∙ behind_none _; filled_is = refl; journal_is = refl; stands_for = e; number_is = m; state_is = refl }
 
 -- the words of an instant put behind those before it
 put_behind : (ws e j₀ journal : List ℕ) (filled : ℕ) → filled ≡ 4 * length ws → journal ≡ put_front ws j₀ →
@@ -112,16 +109,14 @@ unless_stopped_lem Next state e r q = refl
 unless_stopped_lem Last state e r q = refl
 unless_stopped_lem Room state e r q = refl
 
-module _ (score inputs s₀ j₀ journal : List ℕ) (stands : Standing) (number n : ℕ) (rest : List ℕ) (filled : ℕ) (half : Half score inputs s₀ j₀ journal stands number n rest filled) where
+module _ (score inputs s₀ j₀ journal : List ℕ) (stands : Standing) (number n at filled : ℕ) (half : Half score inputs s₀ j₀ journal stands number n at filled) where
   ended_as : (journal' : List ℕ) (e : Ended) → journal' ≡ journal → e.instants ≡ n → e.standing ≡ stands → e.number ≡ number → LawfulState (sizes score).agents (state_in stands) →
-      run_from score half.state (length j₀ - filled) (input_lists rest) ≡ stopped half.state e.stop →
+      run_from score half.state (length j₀ - filled) (input_lists (drop at inputs)) ≡ stopped half.state e.stop →
       RanTo score s₀ j₀ journal' (run_from score s₀ (length j₀) (input_lists inputs)) e
   ended_as journal' e j i st m law r = record {
     stop_is = ap (λ x. x.stop) w;
     instants_are = ap (λ x. x.instants) w ∙ sym i;
     journal_is = j ∙ half.journal_is ∙ sym (ap (λ x. bytes_of x.words ++ drop (4 * length x.words) j₀) w);
-    standing_is = st ∙ half.standing_is ∙ sym (ap (λ x. standing_in x.state) w);
-    number_is = m ∙ half.number_is ∙ sym (ap (λ x. instant_number x.state) w);
     state_is = ap (λ x. x.state) w ∙ half.state_is ∙ sym (ap₂ (λ k x. cond (eqb k 0) s₀ (numbered (state_in x) e.number)) i st ∙ ap (λ k. cond (eqb n 0) s₀ (numbered (state_in stands) k)) m);
     lawful = subst (λ x. LawfulState (sizes score).agents (state_in x)) (sym st) law;
   }
@@ -129,12 +124,12 @@ module _ (score inputs s₀ j₀ journal : List ℕ) (stands : Standing) (number
       w : run_from score s₀ (length j₀) (input_lists inputs) ≡ record { words = half.words; state = half.state; instants = n; stop = e.stop }
       w = half.whole ∙ ap (behind half.words n) r ∙ behind_stopped half.words half.state n e.stop
 
-  pub half_ended : (e : Ended) → e.stop ≡ Not → e.instants ≡ n → e.standing ≡ stands → e.number ≡ number → LawfulState (sizes score).agents (state_in stands) → input_lists rest ≡ [] →
+  pub half_ended : (e : Ended) → e.stop ≡ Not → e.instants ≡ n → e.standing ≡ stands → e.number ≡ number → LawfulState (sizes score).agents (state_in stands) → input_lists (drop at inputs) ≡ [] →
       RanTo score s₀ j₀ journal (run_from score s₀ (length j₀) (input_lists inputs)) e
   unfolding run_from
   half_ended e q i st m law none = ended_as journal e refl i st m law (ap (run_from score half.state (length j₀ - filled)) none ∙ ap (stopped half.state) (sym q))
 
-  module _ (told more : List ℕ) (lists : input_lists rest ≡ told ∷ input_lists more) where
+  module _ (told more_bytes : List ℕ) (lists : input_lists (drop at inputs) ≡ told ∷ input_lists more_bytes) where
     abbrev a : Answer
     a = answer (decode score) (state_in stands) told
 
@@ -143,33 +138,33 @@ module _ (score inputs s₀ j₀ journal : List ℕ) (stands : Standing) (number
 
     answer_is : answer_in score half.state told ≡ a
     unfolding answer_in
-    answer_is = ap (λ st. answer (decode score) st told) (sym (ap state_in half.standing_is ∙ standing_state half.state))
+    answer_is = ap (λ st. answer (decode score) st told) half.stands_for
 
-    from_here : run_from score half.state (length j₀ - filled) (input_lists rest)
-        ≡ unless_stopped (stop_at score (eqb number last_number) a (4 * length words_of) (length j₀ - filled)) half.state words_of (run_from score (next_bytes half.state a) (length j₀ - filled - 4 * length words_of) (input_lists more))
+    from_here : run_from score half.state (length j₀ - filled) (input_lists (drop at inputs))
+        ≡ unless_stopped (stop_at score (eqb number last_number) a (4 * length words_of) (length j₀ - filled)) half.state words_of (run_from score (next_bytes half.state a) (length j₀ - filled - 4 * length words_of) (input_lists more_bytes))
     unfolding run_from
     from_here = ap (run_from score half.state (length j₀ - filled)) lists
         ∙ ap₂ (λ x m. unless_stopped (stop_at score (eqb m last_number) x (4 * length (entry (decode score) told x)) (length j₀ - filled)) half.state (entry (decode score) told x)
-        (run_from score (next_bytes half.state x) (length j₀ - filled - 4 * length (entry (decode score) told x)) (input_lists more))) answer_is (sym half.number_is)
+        (run_from score (next_bytes half.state x) (length j₀ - filled - 4 * length (entry (decode score) told x)) (input_lists more_bytes))) answer_is half.number_is
 
     module _ (room : List ℕ) (long : length room ≡ length j₀ - filled) (room' : List ℕ) (t : Taken) (took : Advanced score (eqb number last_number) a words_of room room' t) where
       stop_is : stop_at score (eqb number last_number) a (4 * length words_of) (length j₀ - filled) ≡ t.stop
       stop_is = ap (stop_at score (eqb number last_number) a (4 * length words_of)) (sym long) ∙ sym took.stop_is
 
-      pub half_more : room ≡ drop filled journal → t.stop ≡ Not → SameState (state_of (as_bytes (after a))) (after a) → number < last_number →
+      pub half_more : room ≡ drop filled journal → t.stop ≡ Not → (more : ℕ) → drop more inputs ≡ more_bytes → SameState (state_of (as_bytes (after a))) (after a) → number < last_number →
           Half score inputs s₀ j₀ (take filled journal ++ room') t.standing (number + 1) (n + 1) more (filled + t.bytes)
-      half_more r q s' below = record {
+      half_more r q more d s' below = record {
         words = half.words ++ words_of;
         state = next_bytes half.state a;
         whole = half.whole
             ∙ ap (behind half.words n) (from_here ∙ unless_not half.state words_of _ (stop_is ∙ q))
             ∙ behind_more half.words words_of n _
-            ∙ ap (λ m. behind (half.words ++ words_of) (n + 1) (run_from score (next_bytes half.state a) m (input_lists more))) bytes;
+            ∙ ap₂ (λ m l. behind (half.words ++ words_of) (n + 1) (run_from score (next_bytes half.state a) m (input_lists l))) bytes (sym d);
         filled_is = ap₂ ◌+◌ half.filled_is took.bytes_are ∙ length_four;
         journal_is = ap (λ l. take filled journal ++ l) (took.written q ∙ ap (λ l. bytes_of words_of ++ drop (4 * length words_of) l) r) ∙ put_behind half.words words_of j₀ journal filled half.filled_is half.journal_is;
-        standing_is = took.standing_is ∙ sym (standing_numbered (after a) (suc (instant_number half.state)));
-        number_is = sym (number_round (after a) (suc (instant_number half.state)) (omega (arith, half.number_is)) ∙ next);
-        state_is = counted n s₀ (next_bytes half.state a) ∙ ap (λ x. cond (eqb (n + 1) 0) s₀ x) (ap (numbered (after a)) next ∙ sym (ap (λ st. numbered st (number + 1)) (ap state_in took.standing_is ∙ standing_state (as_bytes (after a))) ∙ numbered_same _ _ (number + 1) s'));
+        stands_for = numbered_state (after a) (suc (instant_number half.state)) ∙ sym took.stands;
+        number_is = number_round (after a) (suc (instant_number half.state)) (omega (arith, half.number_is)) ∙ next;
+        state_is = counted n s₀ (next_bytes half.state a) ∙ ap (λ x. cond (eqb (n + 1) 0) s₀ x) (ap (numbered (after a)) next ∙ sym (ap (λ st. numbered st (number + 1)) took.stands ∙ numbered_same _ _ (number + 1) s'));
       }
         where
           next : suc (instant_number half.state) ≡ number + 1

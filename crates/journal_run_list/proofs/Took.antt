@@ -15,10 +15,9 @@ use Rattle.laws.proofs.Booleans.{true_is_false}
 use Rattle.tcc.specs.Instant.{State, Answer, answer, after}
 use Rattle.format.specs.Decode.{sizes, decode}
 use Rattle.format.specs.Playable.{Playable}
-use Rattle.flags.specs.Members.{set_of}
+use Rattle.flags.specs.Flags.{set_of}
 use Rattle.bits.specs.Bits.{bytes_of}
-use Rattle.lent.specs.States.{state_fault, as_bytes}
-use Rattle.lent.specs.Lawful.{LawfulState}
+use Rattle.lent.specs.States.{state_fault, as_bytes, LawfulState}
 use Rattle.instant_state.specs.Standing.{state_in}
 use Rattle.journal_words.specs.History.{instant_words, entry}
 use Rattle.journal_step.specs.declared.Step.{Step}
@@ -27,8 +26,8 @@ use Rattle.journal_step.proofs.FromStanding.{words_are}
 use Rattle.journal_run_list.specs.declared.Stop.{Stop}
 use Rattle.journal_run_list.specs.declared.Stop.TheVariants.{Not, Next, Last, Room}
 use Rattle.journal_run_list.specs.declared.Taken.{Taken}
-use Rattle.journal_run_list.specs.Run.{stop_by, stop_at}
-use Rattle.journal_run_list.specs.Advance.{goes_on, Advanced}
+use Rattle.journal_run_list.specs.Run.{stop_by, goes_on, stop_at}
+use Rattle.journal_run_list.specs.Advance.{Advanced}
 
 module _ (score : List ℕ) (p : Playable score) (st : State) (inputs : List ℕ) (s : Step) (is : Stepped score (answer (decode score) st inputs) s) where
   abbrev a : Answer
@@ -53,7 +52,7 @@ module _ (score : List ℕ) (p : Playable score) (st : State) (inputs : List ℕ
     bytes_are = bytes;
     written = λ q. w q ∙ ap (λ ws. bytes_of ws ++ drop (4 * length ws) before) are;
     kept = k;
-    standing_is = stands ∙ is.standing_is;
+    stands = ap state_in stands ∙ is.stands;
     lawful = subst⁻¹ (λ x. LawfulState (sizes score).agents (state_in x)) stands is.lawful;
   }
     where

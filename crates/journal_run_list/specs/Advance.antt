@@ -1,42 +1,30 @@
 -- Contracts of inner functions: what the parts of a run do, by value.
---     goes_on        whether a run goes on
 --     Advanced       one instant: why it is not written, or its words at the front of the journal, and where the score
---                    stands then, as read from the bytes of the next state
---     RanTo          a run from a state's bytes, given by its definition: what it wrote, where the score stands in the
---                    state that it comes to, and at which number; if it wrote an instant, these make that state
-use Rattle.std.specs.Prelude.{◌≡◌, Bool, true, false, cond, List, ◌++◌, ℕ, ◌*◌, eqb, length, drop}
+--                    stands then
+--     RanTo          a run from a state's bytes, given by its definition: what it wrote and, if it wrote an instant, where
+--                    the score stands and at which number
+use Rattle.std.specs.Prelude.{◌≡◌, Bool, cond, List, ◌++◌, ℕ, ◌*◌, eqb, length, drop}
 use Rattle.tcc.specs.Instant.{Answer, after}
 use Rattle.format.specs.Decode.{sizes}
 use Rattle.bits.specs.Bits.{bytes_of}
-use Rattle.lent.specs.States.{as_bytes, instant_number, numbered}
-use Rattle.lent.specs.Lawful.{LawfulState}
-use Rattle.instant_state.specs.Standing.{state_in, standing_in}
-use Rattle.journal_run_list.specs.declared.Stop.{Stop}
-use Rattle.journal_run_list.specs.declared.Stop.TheVariants.{Not, Next, Last, Room}
+use Rattle.lent.specs.States.{state_of, as_bytes, numbered, LawfulState}
+use Rattle.instant_state.specs.Standing.{state_in}
+use Rattle.journal_run_list.specs.declared.Stop.TheVariants.{Not}
 use Rattle.journal_run_list.specs.declared.Taken.{Taken}
 use Rattle.journal_run_list.specs.declared.Ended.{Ended}
 use Rattle.journal_run_list.specs.Run.{Ran, stop_at}
 
-abbrev pub goes_on : Stop → Bool
-goes_on Not = true
-goes_on Next = false
-goes_on Last = false
-goes_on Room = false
-
-pub record Advanced (score : List ℕ) (last : Bool) (a : Answer) (words before after' : List ℕ) (t : Taken)
-    : Type 0 where
+pub record Advanced (score : List ℕ) (last : Bool) (a : Answer) (words before after' : List ℕ) (t : Taken) : Type 0 where
   pub stop_is : t.stop ≡ stop_at score last a (4 * length words) (length before)
   pub bytes_are : t.bytes ≡ 4 * length words
   pub written : t.stop ≡ Not → after' ≡ bytes_of words ++ drop (4 * length words) before
   pub kept : (t.stop ≡ Not → ⊥) → after' ≡ before
-  pub standing_is : t.standing ≡ standing_in (as_bytes (after a))
+  pub stands : state_in t.standing ≡ state_of (as_bytes (after a))
   pub lawful : LawfulState (sizes score).agents (state_in t.standing)
 
 pub record RanTo (score s before after' : List ℕ) (r : Ran) (e : Ended) : Type 0 where
   pub stop_is : r.stop ≡ e.stop
   pub instants_are : r.instants ≡ e.instants
   pub journal_is : after' ≡ bytes_of r.words ++ drop (4 * length r.words) before
-  pub standing_is : e.standing ≡ standing_in r.state
-  pub number_is : e.number ≡ instant_number r.state
   pub state_is : r.state ≡ cond (eqb e.instants 0) s (numbered (state_in e.standing) e.number)
   pub lawful : LawfulState (sizes score).agents (state_in e.standing)

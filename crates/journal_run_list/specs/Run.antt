@@ -1,11 +1,11 @@
 -- The instants of a run, one after the other, each from the state that the one before left.
---     stop_by        why an instant is not written: 11, the next state would meet 9; 18, it is wanted at the last
---                    number; 15, its words exceed the bytes left. 18 comes "in a run after 13 and before 15" (W7)
+--     stop_by        why an instant is not written: 11, the next state would meet 9; 18, it is wanted at the last number;
+--                    15, its words exceed the bytes left. "18, in a run after 13 and before 15" (W7)
+--     goes_on        whether it is
 --     stop_at         the same, by the answer
---     Ran            what a run did: the words of the instants written, the state after them, how many, and why it
---                    stopped
+--     Ran            what a run did: the words of the instants written, the state after them, how many, and why it stopped
 --     run_from        a run, from a state, with so many journal bytes left
-use Rattle.std.specs.Prelude.{Bool, cond, List, [], ◌∷◌, ◌++◌, ℕ, suc, ◌*◌, ◌-◌, leb, length}
+use Rattle.std.specs.Prelude.{Bool, true, false, cond, List, [], ◌∷◌, ◌++◌, ℕ, suc, ◌*◌, ◌-◌, leb, length}
 use Rattle.tcc.specs.Instant.{Answer, after}
 use Rattle.format.specs.Decode.{sizes, decode}
 use Rattle.lent.specs.States.{state_fault, as_bytes, next_bytes, at_last}
@@ -16,6 +16,12 @@ use Rattle.journal_run_list.specs.declared.Stop.TheVariants.{Not, Next, Last, Ro
 
 abbrev pub stop_by : Bool → Bool → ℕ → ℕ → Stop
 stop_by unlawful last needed room = cond unlawful Next (cond last Last (cond (leb needed room) Not Room))
+
+abbrev pub goes_on : Stop → Bool
+goes_on Not = true
+goes_on Next = false
+goes_on Last = false
+goes_on Room = false
 
 unfoldable pub stop_at : List ℕ → Bool → Answer → ℕ → ℕ → Stop
 stop_at score last a needed room = stop_by (state_fault (sizes score).agents (as_bytes (after a))) last needed room
@@ -42,8 +48,6 @@ unless_stopped Room state e r = stopped state Room
 unfoldable pub run_from : List ℕ → List ℕ → ℕ → List (List ℕ) → Ran
 run_from score state room [] = stopped state Not
 run_from score state room (inputs ∷ more) =
-    unless_stopped (stop_at score (at_last state) (answer_in score state inputs)
-    (4 * length (entry (decode score) inputs (answer_in score state inputs))) room) state
+    unless_stopped (stop_at score (at_last state) (answer_in score state inputs) (4 * length (entry (decode score) inputs (answer_in score state inputs))) room) state
     (entry (decode score) inputs (answer_in score state inputs))
-    (run_from score (next_bytes state (answer_in score state inputs))
-    (room - 4 * length (entry (decode score) inputs (answer_in score state inputs))) more)
+    (run_from score (next_bytes state (answer_in score state inputs)) (room - 4 * length (entry (decode score) inputs (answer_in score state inputs))) more)

@@ -3,21 +3,21 @@ ghost use Rattle.std.specs.Prelude.{◌≡◌, false, List, ℕ, ◌≤◌, leng
 ghost use Rattle.tcc.specs.Instant.{answer};
 ghost use Rattle.instant_prepared.specs.Prepared.{PreparedFrom};
 ghost use Rattle.format.specs.Decode.{sizes, decode};
-ghost use Rattle.flags.specs.Members.{set_of};
+ghost use Rattle.flags.specs.Flags.{set_of};
 ghost use Rattle.lent.specs.Lengths.{no_scratch};
-ghost use Rattle.lent.specs.States.{instant_number};
-ghost use Rattle.lent.specs.Lawful.{LawfulState};
-ghost use Rattle.instant_state.specs.Standing.{state_in, standing_in};
+ghost use Rattle.lent.specs.States.{state_of, instant_number, LawfulState};
+ghost use Rattle.instant_state.specs.Standing.{state_in};
 ghost use Rattle.journal_form.specs.declared.Form.TheVariants.{Good};
 ghost use Rattle.journal_form.specs.Form.{form_of};
 ghost use Rattle.journal_instants.specs.Instants.{input_lists};
 ghost use Rattle.journal_words.specs.History.{entry};
-ghost use Rattle.journal_run_list.specs.Run.{stop_by, run_from};
-ghost use Rattle.journal_run_list.specs.Advance.{goes_on, Advanced, RanTo};
+ghost use Rattle.journal_run_list.specs.Run.{stop_by, goes_on, run_from};
+ghost use Rattle.journal_run_list.specs.Advance.{Advanced, RanTo};
 
 use flags::Tokens;
 use instant_prepared::Prepared;
 use instant_state::Standing;
+use journal_form::Form;
 
 // Why an instant of a run is not written.
 #[derive(Drop)]
@@ -62,16 +62,16 @@ pub fn run_list(
     requires lawful_state { LawfulState (sizes score.now).agents (state_in standing) }
     requires inputs_value { form_of false (sizes score.now).tokens inputs.now ≡ Good }
     requires scratch_value { scratch.old ≡ no_scratch }
-    ensures by_index { (s : List ℕ) → standing ≡ standing_in s → number ≡ instant_number s → RanTo score.now s journal.old journal.new (run_from score.now s (length journal.old) (input_lists inputs.now)) result }
+    ensures by_index { (s : List ℕ) → state_of s ≡ state_in standing → instant_number s ≡ number → RanTo score.now s journal.old journal.new (run_from score.now s (length journal.old) (input_lists inputs.now)) result }
     ensures scratch_after { scratch.new ≡ no_scratch }
 {
     let mut stands = standing;
     let mut reached = number;
     let mut instants = 0;
-    let mut rest = inputs;
+    let mut at = 0;
     let mut filled = 0;
-    while 0 < rest.len() {
-        let here = journal_instants::first_part(rest);
+    while at < inputs.len() {
+        let here = journal_instants::part(inputs, Form::Good, at);
         let told = journal_instants::tokens_in(here, 13);
         let last = reached == lent::LAST_NUMBER;
         let taken = advance(
@@ -88,7 +88,7 @@ pub fn run_list(
             stands = taken.standing;
             reached += 1;
             instants += 1;
-            rest = &rest[here.len()..];
+            at += here.len();
             filled += taken.bytes;
         } else {
             return Ended {

@@ -23,17 +23,14 @@ use Rattle.tcc.proofs.Status.{answer_status}
 use Rattle.format.specs.Decode.{sizes, decode}
 use Rattle.format.specs.Playable.{Playable}
 use Rattle.format.proofs.Decode.{playable_agents, decode_tokens}
-use Rattle.flags.specs.Flags.{flags_of}
-use Rattle.flags.specs.Members.{set_of}
+use Rattle.flags.specs.Flags.{set_of, flags_of}
 use Rattle.flags.proofs.Flags.{member_flag}
 use Rattle.instant_engine.specs.declared.Outcome.{Outcome}
 use Rattle.instant_engine.specs.Outcome.{outcome_of}
-use Rattle.lent.specs.States.{as_bytes}
-use Rattle.lent.specs.Lawful.{LawfulState}
+use Rattle.lent.specs.States.{state_of, as_bytes, LawfulState}
 use Rattle.instant_state.specs.declared.Standing.{Standing}
-use Rattle.instant_state.specs.Standing.{state_in, standing_in}
+use Rattle.instant_state.specs.Standing.{state_in}
 use Rattle.instant_state.proofs.Inside.{Inside, answer_inside, flags_known}
-use Rattle.instant_state.proofs.Standings.{standing, standing_state}
 use Rattle.journal_words.specs.History.{instant_words, entry, RisingBelow}
 use Rattle.journal_words.proofs.Rising.{rising_set, output_rising}
 use Rattle.journal_step.specs.declared.Step.{Step}
@@ -75,9 +72,12 @@ module _ (score : List ℕ) (p : Playable score) (st : State) (law : LawfulState
   few = p.lawful.agents_at_most
 
   module _ (o : Outcome) (is : o ≡ outcome_of a) where
-    standing_so : (s : Standing) → (s.running ≡ not (eqb o.status 2)) × (s.awake ≡ o.awake) → s ≡ standing_in (as_bytes (after a))
+    standing_so : (s : Standing) → (s.running ≡ not (eqb o.status 2)) × (s.awake ≡ o.awake) → state_in s ≡ state_of (as_bytes (after a))
     unfolding outcome_of
-    standing_so s e = ap₂ standing e.0 e.1 ∙ ap (λ x. standing (not (eqb x.status 2)) x.awake) is ∙ stands_after sc a few inside
+    standing_so s e = ap state_in (at ∙ ap (λ x. record { running = not (eqb x.status 2); awake = x.awake }) is) ∙ stands_after sc a few inside
+      where
+        at : s ≡ record { running = not (eqb o.status 2); awake = o.awake }
+        at = λ i. record { running = e.0 i; awake = e.1 i }
 
     pub stepped : (s : Step) → s.status ≡ o.status → s.out ≡ flags_of 256 (output sc o.status (set_of o.store)) →
         s.unlawful ≡ any (λ i. leb (sizes score).agents i) (set_of o.awake) →
@@ -88,8 +88,8 @@ module _ (score : List ℕ) (p : Playable score) (st : State) (law : LawfulState
       status_is = e ∙ ap (λ x. x.status) is;
       out_is = sends ∙ ap (λ x. flags_of 256 (output sc x.status (set_of x.store))) is ∙ ap (flags_of 256) (output_so sc a few inside p.lawful);
       unlawful_is = u ∙ ap (λ x. any (λ i. leb (sizes score).agents i) (set_of x.awake)) is ∙ never_unlawful sc a few inside (sizes score).agents (playable_agents score p);
-      standing_is = standing_so s.standing stands;
-      lawful = subst⁻¹ (LawfulState (sizes score).agents) (ap state_in (standing_so s.standing stands) ∙ standing_state (as_bytes (after a))) (stands_lawful sc a few inside (sizes score).agents (playable_agents score p));
+      stands = standing_so s.standing stands;
+      lawful = subst⁻¹ (LawfulState (sizes score).agents) (standing_so s.standing stands) (stands_lawful sc a few inside (sizes score).agents (playable_agents score p));
     }
 
 -- ---- what such an instant has

@@ -18,11 +18,10 @@ use Rattle.tcc.specs.Instant.{State, running, aborted, answer, after}
 use Rattle.tcc.proofs.SameAnswer.{SameAnswer}
 use Rattle.format.specs.Decode.{sizes, decode}
 use Rattle.format.proofs.Decode.{sizes_few}
-use Rattle.lent.specs.States.{state_fault, state_of, as_bytes, instant_number, numbered, next_bytes}
-use Rattle.lent.proofs.SameState.{SameState, answer_same, after_same}
-use Rattle.lent.specs.Lawful.{LawfulState}
+use Rattle.lent.specs.States.{state_fault, state_of, as_bytes, instant_number, numbered, next_bytes, LawfulState, SameState}
 use Rattle.lent.proofs.Round.{as_bytes_same, lawful_bytes}
 use Rattle.lent.proofs.Numbered.{numbered_same, numbered_round}
+use Rattle.lent.proofs.SameState.{answer_same, after_same}
 use Rattle.instant_state.proofs.Inside.{answer_inside, after_lawful}
 use Rattle.journal_words.specs.History.{entry, RisingBelow}
 use Rattle.journal_words.proofs.Histories.{entry_same}

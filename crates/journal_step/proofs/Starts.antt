@@ -17,11 +17,9 @@ use Rattle.tcc.specs.Instant.{running, start_state}
 use Rattle.format.specs.Decode.{sizes, decode}
 use Rattle.format.specs.Playable.{Playable}
 use Rattle.format.proofs.Decode.{playable_agents, sizes_few}
-use Rattle.flags.specs.Flags.{flags_of}
-use Rattle.flags.specs.Members.{set_of}
+use Rattle.flags.specs.Flags.{set_of, flags_of}
 use Rattle.flags.proofs.Flags.{set_here, set_cases, set_of_none, flags_settled}
-use Rattle.lent.specs.States.{state_of, as_bytes, numbered, start_bytes}
-use Rattle.lent.specs.Lawful.{LawfulState}
+use Rattle.lent.specs.States.{state_of, as_bytes, numbered, start_bytes, LawfulState}
 use Rattle.lent.proofs.Round.{state_round, lawful_bytes, faultless_lawful}
 use Rattle.lent.proofs.Numbered.{numbered_same}
 use Rattle.instant_state.specs.Standing.{state_in}

@@ -1,7 +1,7 @@
 -- One instant of a run, from flags to the definition.
 --     same_running       bytes that stand for running agents stand for their flags
---     stands_after       where the score stands after an answer is where it stands in the bytes of its next state
---     stands_lawful      which is a lawful state
+--     stands_after       where the score stands after an answer is what the bytes of its next state stand for
+--     stands_lawful      and it is a lawful state
 --     output_so          what goes to the ports, by the flags of its store
 --     never_unlawful     number 11 is not met
 use mathlib.Core.Path.{◌≡◌, refl, sym, ap, ◌∙◌}
@@ -9,27 +9,27 @@ use mathlib.Core.Bool.{Bool, true, false, cond, not}
 use mathlib.Core.List.{List}
 use Prim.Native.Nat.{ℕ, ◌≤◌}
 use native.Mathlib.Omega.{arith}
-use borrow.Author.Tests.{eqb-true}
 use lib.Dec.{eqb, leb}
 use lib.ListN.{length}
 use Rattle.laws.specs.Sets.{any}
 use Rattle.tcc.specs.Score.{Score}
 use Rattle.tcc.specs.Lawful.{Lawful}
-use Rattle.tcc.specs.Instant.{running, aborted, Answer, output, after}
+use Rattle.tcc.specs.Instant.{State, running, aborted, Answer, output, after}
 use Rattle.tcc.proofs.Output.{output_same}
 use Rattle.words.specs.Word.{word_at}
-use Rattle.flags.specs.Flags.{flags_of}
-use Rattle.flags.specs.Members.{set_of}
+use Rattle.flags.specs.Flags.{set_of, flags_of}
 use Rattle.flags.proofs.Flags.{flags_of_same}
 use Rattle.bits.proofs.Filled.{from_none}
-use Rattle.lent.specs.States.{aborted_word, agents_in, state_fault, state_of, as_bytes}
-use Rattle.lent.proofs.SameState.{SameState}
-use Rattle.lent.specs.Lawful.{LawfulState}
+use Rattle.lent.specs.States.{aborted_word, agents_in, state_fault, state_of, as_bytes, LawfulState, SameState}
 use Rattle.lent.proofs.Agents.{agents_set}
-use Rattle.lent.proofs.Round.{faultless_lawful}
-use Rattle.instant_state.specs.Standing.{standing_in}
-use Rattle.instant_state.proofs.Inside.{Inside, flags_back, flags_known, after_lawful, next_lawful}
-use Rattle.instant_state.proofs.Standings.{standing, runs, agents_of, standing_written}
+use Rattle.lent.proofs.Round.{state_round, faultless_lawful}
+use Rattle.instant_state.specs.Standing.{state_in}
+use Rattle.instant_state.proofs.Inside.{Inside, flags_back, flags_known, next_lawful}
+
+same_aborted : (st : State) → SameState st aborted → st ≡ aborted
+unfolding SameState
+same_aborted (running l) h = absurd h
+same_aborted aborted h = refl
 
 pub same_running : (s l : List ℕ) → SameState (state_of s) (running l) → state_of s ≡ running (set_of (flags_of 1024 l))
 unfolding SameState state_of
@@ -43,12 +43,21 @@ module _ (sc : Score) (a : Answer) (few : length sc.agents ≤ 1024) (inside : I
   pub stands_lawful : (n : ℕ) → length sc.agents ≡ n → LawfulState n (state_of (as_bytes (after a)))
   stands_lawful n e = faultless_lawful n (as_bytes (after a)) (next_lawful sc a n e (omega arith) inside)
 
-  pub stands_after : standing (not (eqb a.status 2)) (flags_of 1024 a.awake) ≡ standing_in (as_bytes (after a))
-  stands_after = go (eqb a.status 2) refl ∙ sym (standing_written (after a) (after_lawful sc a 1024 few inside))
+  awake_within : LawfulState 1024 (running a.awake)
+  unfolding LawfulState
+  awake_within i m = omega (arith, inside.agents i m)
+
+  aborted_within : LawfulState 1024 aborted
+  unfolding LawfulState
+  aborted_within = tt
+
+  pub stands_after : state_in (record { running = not (eqb a.status 2); awake = flags_of 1024 a.awake }) ≡ state_of (as_bytes (after a))
+  unfolding state_in
+  stands_after = go (eqb a.status 2)
     where
-      go : (b : Bool) → eqb a.status 2 ≡ b → standing (not b) (flags_of 1024 a.awake) ≡ standing (runs (cond b aborted (running a.awake))) (flags_of 1024 (agents_of (cond b aborted (running a.awake))))
-      go true e = ap (λ x. standing false (flags_of 1024 x.awake)) (inside.aborted_whole (eqb-true a.status 2 e))
-      go false e = refl
+      go : (b : Bool) → cond (not b) (running (set_of (flags_of 1024 a.awake))) aborted ≡ state_of (as_bytes (cond b aborted (running a.awake)))
+      go true = sym (same_aborted _ (state_round aborted aborted_within))
+      go false = sym (same_running (as_bytes (running a.awake)) a.awake (state_round (running a.awake) awake_within))
 
   pub output_so : Lawful sc → output sc a.status (set_of (flags_of 256 a.store)) ≡ output sc a.status a.store
   output_so law = output_same sc a.status (flags_back 256 a.store (λ t m. omega (arith, inside.tokens t m, law.tokens_at_most)))

@@ -4,10 +4,9 @@ ghost use Rattle.tcc.specs.Instant.{start_state, answer};
 ghost use Rattle.instant_prepared.specs.Prepared.{PreparedFrom};
 ghost use Rattle.format.specs.Decode.{sizes, decode};
 ghost use Rattle.format.specs.Playable.{Playable};
-ghost use Rattle.flags.specs.Members.{set_of};
+ghost use Rattle.flags.specs.Flags.{set_of};
 ghost use Rattle.lent.specs.Lengths.{state_bytes, no_scratch};
-ghost use Rattle.lent.specs.States.{state_of, as_bytes, start_bytes};
-ghost use Rattle.lent.specs.Lawful.{LawfulState};
+ghost use Rattle.lent.specs.States.{state_of, as_bytes, start_bytes, LawfulState};
 ghost use Rattle.instant_state.specs.Standing.{state_in};
 ghost use Rattle.journal_step.specs.Stepped.{Stepped};
 

@@ -18,7 +18,7 @@ use Rattle.laws.specs.Sets.{below, keep}
 use Rattle.laws.proofs.Booleans.{true_is_false}
 use Rattle.laws.proofs.Sets.{on_keep, keep_kept, lt_below, keep_append}
 use Rattle.laws.proofs.Rising.{rising_unique}
-use Rattle.flags.specs.Members.{set_of}
+use Rattle.flags.specs.Flags.{set_of}
 use Rattle.flags.proofs.Flags.{flag_member, member_flag}
 use Rattle.journal_words.proofs.Rising.{kept_rising, flags_rising}
 

@@ -20,8 +20,7 @@ use Rattle.tcc.specs.Score.{Score}
 use Rattle.tcc.specs.Instant.{ports, output}
 use Rattle.tcc.proofs.Output.{ports_between, output_either}
 use Rattle.words.specs.Map.{in_map}
-use Rattle.flags.specs.Flags.{flags_of}
-use Rattle.flags.specs.Members.{set_of}
+use Rattle.flags.specs.Flags.{set_of, flags_of}
 use Rattle.flags.proofs.Flags.{flags_of_member, member_flags_of}
 use Rattle.lent_maps.specs.Maps.{tokens_in, map_of}
 use Rattle.lent_maps.proofs.Round.{map_round}

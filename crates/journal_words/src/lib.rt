@@ -1,7 +1,7 @@
 // The words of an instant in a journal, counted and written.
 ghost use Rattle.std.specs.Prelude.{◌≡◌, false, map, ◌++◌, ℕ, ◌+◌, ◌*◌, ◌^◌, ◌≤◌, ◌<◌, length, get_or, take, drop};
 ghost use Rattle.tcc.specs.Limits.{most_tokens};
-ghost use Rattle.flags.specs.Members.{set_of};
+ghost use Rattle.flags.specs.Flags.{set_of};
 ghost use Rattle.bits.specs.Bits.{bytes_of};
 ghost use Rattle.journal_words.specs.History.{instant_words};
 

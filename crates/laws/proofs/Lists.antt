@@ -1,7 +1,6 @@
 -- Laws of lists by position.
---     place_member         entry i is a member
---     on_places            what holds of each entry holds of each member
---     entry_member, on_entries      the same of lists of numbers
+--     entry_member         entry j is a member
+--     on_entries           what holds of each entry holds of each member
 --     map_at               entry i of the images is the image of entry i
 --     map_snoc             the images of a list with one member more
 --     map_same             functions that agree have the same images
@@ -18,21 +17,14 @@ use lib.ListN.{length, get_or, set}
 use lib.Seq.{get_or-set_same, get_or-set_other}
 use Rattle.laws.proofs.Sets.{Within, on_cons}
 
-module _ {A : Type 0} where
-  pub place_member : (l : List A) (i : ℕ) (d : A) → i < length l → Memᴰ (get_or l i d) l
-  place_member [] i d h = absurd (not-suc-le-zero h)
-  place_member (x ∷ l) zero d h = Memᴰ.head refl
-  place_member (x ∷ l) (suc i) d h = Memᴰ.tail (place_member l i d (le_of_suc-le-suc h))
-
-  pub on_places : (P : A → Type 0) (l : List A) (d : A) → ((i : ℕ) → i < length l → P (get_or l i d)) → Within P l
-  on_places P [] d f x m = elim m [ ]
-  on_places P (y ∷ l) d f x m = on_cons {P = P} (f zero (omega arith)) (on_places P l d (λ i lt. f (suc i) (omega arith))) x m
-
 pub entry_member : (l : List ℕ) (j : ℕ) → j < length l → Memᴰ (get_or l j 0) l
-entry_member l j = place_member l j 0
+entry_member [] j h = absurd (not-suc-le-zero h)
+entry_member (x ∷ l) zero h = Memᴰ.head refl
+entry_member (x ∷ l) (suc j) h = Memᴰ.tail (entry_member l j (le_of_suc-le-suc h))
 
 pub on_entries : (P : ℕ → Type 0) (l : List ℕ) → ((j : ℕ) → j < length l → P (get_or l j 0)) → Within P l
-on_entries P l = on_places P l 0
+on_entries P [] f x m = elim m [ ]
+on_entries P (y ∷ l) f x m = on_cons (f zero (omega arith)) (on_entries P l (λ j lt. f (suc j) (omega arith))) x m
 
 pub map_at : {A B : Type 0} (f : A → B) (l : List A) (i : ℕ) (d : A) (e : B) → i < length l → get_or (map f l) i e ≡ f (get_or l i d)
 map_at f [] i d e h = absurd (not-suc-le-zero h)

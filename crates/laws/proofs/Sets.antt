@@ -5,14 +5,10 @@
 --     every_each, each_every          `every` passes if and only if it passes at each member
 --     has_member, member_has          `has` is membership; `not_has`, where there is none
 --     has_same                        sets with the same members pass the same test
---     holds_none                      nothing is in the set that is 0
---     none_above, below_none          no member is n or more if and only if each is below n
+--     none_above                      where no member is n or more, each is below n
 --     keep_kept                       what passes the test is kept
 --     keep_append                     the kept of two lists, one after the other
---     keep_none, keep_all             none is kept where none passes, all where all pass
---     keep_few, keep_more, keep_fewer     how many are kept: no more than there are, no fewer by a wider test, fewer by one
---                                     that a member fails
---     keep_either                     where each member passes one of two tests, the two keep as many as there are
+--     keep_none, keep_few, keep_more      how many are kept: none, no more than there are, no fewer by a wider test
 --     below_lt, lt_below              the members of `below n` are the numbers below n
 --     below_length, below_at          it has n entries, entry i is i
 --     on_cons, on_append, on_map, on_keep     what holds of the parts holds of every member
@@ -24,16 +20,15 @@ use mathlib.Core.Bool.{Bool, true, false, cond, ◌||◌, true-or, or-true}
 use mathlib.Core.List.Memᴰ
 use mathlib.Core.List.{List, [], ◌∷◌, ◌++◌, map, Memᴰ}
 use mathlib.Core.Logic.{⊎_elim, by_cases}
-use Prim.Native.Nat.{ℕ, zero, suc, ◌+◌, ◌%◌, ◌<◌, ◌≤◌}
-use native.Mathlib.Nat.{not-suc-le-zero, div-eq_of_lt}
+use Prim.Native.Nat.{ℕ, zero, suc, ◌<◌, ◌≤◌}
+use native.Mathlib.Nat.{not-suc-le-zero}
 use native.Mathlib.Omega.{arith}
 use native.Mathlib.Decide.{dec_lt}
 use lib.Dec.{eqb, leb}
 use lib.ListN.{length, get_or, length-append, get_or-append}
-use lib.Pow.{pow_pos}
 use lib.Seq.{get_or_at}
-use borrow.Author.Tests.{eqb-true, eq-eqb, le-leb, lt-leb}
-use Rattle.laws.specs.Sets.{Same, below, keep, any, every, has, holds}
+use borrow.Author.Tests.{eqb-true, eq-eqb, le-leb}
+use Rattle.laws.specs.Sets.{Same, below, keep, any, every, has}
 use Rattle.laws.proofs.Booleans.{true_is_false, and_both, both_and}
 
 abbrev pub Within : {A : Type 0} → (A → Type 0) → List A → Type 0
@@ -143,10 +138,6 @@ has_same {l} {k} n h = go (has n l) refl
     go true e = e ∙ sym (member_has ((h n).0 (has_member n l e)))
     go false e = e ∙ sym (not_has (λ m. true_is_false (member_has ((h n).1 m)) e))
 
-pub holds_none : (n : ℕ) → holds 0 n ≡ false
-unfolding holds
-holds_none n = ap (λ k. eqb (k % 2) 1) (div-eq_of_lt (pow_pos n))
-
 pub none_above : (n : ℕ) (l : List ℕ) → any (λ t. leb n t) l ≡ false → (t : ℕ) → Memᴰ t l → t < n
 none_above n l e t m = go (dec_lt t n)
   where
@@ -155,10 +146,6 @@ none_above n l e t m = go (dec_lt t n)
     go (no h) =
         let le : n ≤ t = omega arith in
         absurd (true_is_false (some_any (λ x. leb n x) m (le-leb n t le)) e)
-
-pub below_none : (n : ℕ) (l : List ℕ) → Within (λ t. t < n) l → any (λ t. leb n t) l ≡ false
-below_none n [] h = refl
-below_none n (x ∷ l) h = rw (lt-leb n x (h x (Memᴰ.head refl))) (below_none n l (λ t m. h t (Memᴰ.tail m)))
 
 module _ {A : Type 0} (f : A → Bool) where
   pub keep_append : (l k : List A) → keep f (l ++ k) ≡ keep f l ++ keep f k
@@ -172,10 +159,6 @@ module _ {A : Type 0} (f : A → Bool) where
   pub keep_none : (l : List A) → Within (λ x. f x ≡ false) l → keep f l ≡ []
   keep_none [] h = refl
   keep_none (x ∷ l) h = let p : f x ≡ false = h x (Memᴰ.head refl) in rw p (keep_none l (λ y m. h y (Memᴰ.tail m)))
-
-  pub keep_all : (l : List A) → Within (λ x. f x ≡ true) l → keep f l ≡ l
-  keep_all [] h = refl
-  keep_all (x ∷ l) h = let p : f x ≡ true = h x (Memᴰ.head refl) in rw p (ap (λ k. x ∷ k) (keep_all l (λ y m. h y (Memᴰ.tail m))))
 
   pub keep_few : (l : List A) → length (keep f l) ≤ length l
   keep_few [] = omega arith
@@ -194,30 +177,6 @@ module _ {A : Type 0} (f : A → Bool) where
       go true false e rest = absurd (true_is_false (e refl) refl)
       go false true e rest = omega arith
       go false false e rest = rest
-
-module _ {A : Type 0} (f g : A → Bool) where
-  pub keep_fewer : {x : A} {l : List A} → Memᴰ x l → Within (λ y. g y ≡ true → f y ≡ true) l → f x ≡ true → g x ≡ false → length (keep g l) < length (keep f l)
-  keep_fewer {x} (Memᴰ.head {x = y} {xs = l} e) h p q =
-      let p' : f y ≡ true = rw (← e) p in
-      let q' : g y ≡ false = rw (← e) q in
-      rw (p', q') (omega (arith, keep_more g f l (λ z m. h z (Memᴰ.tail m))))
-  keep_fewer {x} (Memᴰ.tail {x = y} {xs = l} m) h p q = go (g y) refl (f y) refl (keep_fewer m (λ z k. h z (Memᴰ.tail k)) p q)
-    where
-      go : (b : Bool) → g y ≡ b → (c : Bool) → f y ≡ c → length (keep g l) < length (keep f l) → length (keep g (y ∷ l)) < length (keep f (y ∷ l))
-      go true eg true ef lt = rw (eg, ef) (omega arith)
-      go true eg false ef lt = absurd (true_is_false (h y (Memᴰ.head refl) eg) ef)
-      go false eg true ef lt = rw (eg, ef) (omega arith)
-      go false eg false ef lt = rw (eg, ef) lt
-
-  pub keep_either : ((x : A) → f x ≡ false → g x ≡ true) → (l : List A) → length l ≤ length (keep f l) + length (keep g l)
-  keep_either h [] = omega arith
-  keep_either h (x ∷ l) = go (f x) (g x) (h x) (keep_either h l)
-    where
-      go : (b c : Bool) → (b ≡ false → c ≡ true) → length l ≤ length (keep f l) + length (keep g l) → suc (length l) ≤ length (cond b (x ∷ keep f l) (keep f l)) + length (cond c (x ∷ keep g l) (keep g l))
-      go true true e rest = omega arith
-      go true false e rest = omega arith
-      go false true e rest = omega arith
-      go false false e rest = absurd (true_is_false (e refl) refl)
 
 pub below_length : (n : ℕ) → length (below n) ≡ n
 below_length zero = refl

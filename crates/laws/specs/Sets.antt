@@ -4,8 +4,7 @@
 --     keep          the members of a list that pass a test, in its order
 --     any, every    some element, each element of a list passes a test
 --     has           whether a number is in a set
---     holds         the same of a set that is a number, the sum of 2 to the power of each member
-use Rattle.std.specs.Prelude.{Bool, true, false, cond, ◌&&◌, ◌||◌, ℕ, zero, suc, ◌/◌, ◌%◌, ◌^◌, eqb}
+use Rattle.std.specs.Prelude.{Bool, true, false, cond, ◌&&◌, ◌||◌, ℕ, zero, suc, eqb}
 use mathlib.Core.List.{List, [], ◌∷◌, ◌++◌, Memᴰ}
 
 abbrev pub Same : {A : Type 0} → List A → List A → Type 0
@@ -29,6 +28,3 @@ every f (x ∷ l) = f x && every f l
 
 abbrev pub has : ℕ → List ℕ → Bool
 has n l = any (λ m. eqb n m) l
-
-unfoldable pub holds : ℕ → ℕ → Bool
-holds set n = eqb (set / 2 ^ n % 2) 1

@@ -20,8 +20,7 @@ use Rattle.laws.specs.Sets.{below, any}
 use Rattle.laws.proofs.Sets.{Within, on_keep, below_lt}
 use Rattle.laws.proofs.Any.{any_keep, any_add, any_same}
 use Rattle.words.specs.Word.{word_at}
-use Rattle.flags.specs.Flags.{flags_of}
-use Rattle.flags.specs.Members.{set_of}
+use Rattle.flags.specs.Flags.{set_of, flags_of}
 use Rattle.bits.specs.Bits.{bit_at}
 use Rattle.bits.specs.Spread.{Spread}
 use Rattle.bits.proofs.Bits.{bits_from}

@@ -16,7 +16,7 @@ use lib.Seq.{take_at, drop-append-add, drop-drop}
 use Rattle.laws.specs.Sets.{below, has}
 use Rattle.laws.proofs.Lists.{map_snoc, map_same}
 use Rattle.laws.proofs.Sets.{below_length}
-use Rattle.flags.specs.Members.{set_of}
+use Rattle.flags.specs.Flags.{set_of}
 use Rattle.bits.specs.Bits.{bits_value, bytes_of}
 use Rattle.bits.proofs.Bits.{bits_value_same}
 use Rattle.bits.proofs.Bytes.{bytes_of_length, bytes_of_append, put_front, put_front_more}

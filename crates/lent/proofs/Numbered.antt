@@ -27,9 +27,7 @@ use Rattle.words.proofs.Words.{words_length, word_joined}
 use Rattle.bits.specs.Bits.{bit_at, bytes_of}
 use Rattle.bits.proofs.Bytes.{bytes_of_length, bytes_of_append, words_bytes}
 use Rattle.lent.specs.Lengths.{unnumbered_bytes, state_bytes}
-use Rattle.lent.specs.States.{aborted_word, agents_in, state_fault, state_of, state_words, as_bytes, instant_number, numbered, next_bytes, last_number, SameButNumber}
-use Rattle.lent.proofs.SameState.{SameState}
-use Rattle.lent.specs.Lawful.{LawfulState}
+use Rattle.lent.specs.States.{aborted_word, agents_in, state_fault, state_of, state_words, as_bytes, instant_number, numbered, next_bytes, last_number, SameButNumber, LawfulState, SameState}
 use Rattle.lent.proofs.Faults.{fault_running, fault_aborted, fault_other, by_first_word}
 use Rattle.lent.proofs.Gathered.{number_put}
 use Rattle.lent.proofs.Round.{state_words_length, state_words_fit, as_bytes_length, as_bytes_same, state_round}

@@ -28,9 +28,7 @@ use Rattle.bits.specs.Bits.{bit_at, bits_value, bytes_of}
 use Rattle.bits.proofs.Bits.{bits_value_below, bits_value_same, bits_value_bit}
 use Rattle.bits.proofs.Bytes.{bytes_of_length, words_bytes}
 use Rattle.lent.specs.Lengths.{unnumbered_bytes}
-use Rattle.lent.specs.States.{running_word, aborted_word, agents_in, state_fault, state_of, agent_words, state_words, as_bytes}
-use Rattle.lent.proofs.SameState.{SameState}
-use Rattle.lent.specs.Lawful.{LawfulState}
+use Rattle.lent.specs.States.{running_word, aborted_word, agents_in, state_fault, state_of, agent_words, state_words, as_bytes, LawfulState, SameState}
 use Rattle.lent.proofs.Agents.{awake_in, agents_within}
 use Rattle.lent.proofs.Faults.{fault_running, fault_aborted, fault_other, by_first_word}
 

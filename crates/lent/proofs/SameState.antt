@@ -1,5 +1,4 @@
 -- States with the same agents.
---     SameState                              two states with the same agents
 --     state_refl, state_sym, state_trans     `SameState` is an equivalence
 --     state_running                          bytes that stand for the same state as a running one are running, with its agents
 --     state_aborted                          and with an aborted one there is none but it
@@ -17,13 +16,7 @@ use Rattle.tcc.specs.Score.{Score}
 use Rattle.tcc.specs.Instant.{Answer, aborted_answer, State, running, aborted, answer, after, state_after}
 use Rattle.tcc.proofs.SameAnswer.{SameAnswer, answer_refl, instant_same}
 use Rattle.words.specs.Word.{word_at}
-use Rattle.lent.specs.States.{aborted_word, agents_in, state_of}
-
-unfoldable pub SameState : State → State → Type 0
-SameState (running a) (running b) = Same a b
-SameState (running a) aborted = ⊥
-SameState aborted (running b) = ⊥
-SameState aborted aborted = Unit
+use Rattle.lent.specs.States.{aborted_word, agents_in, state_of, SameState}
 
 pub state_refl : (a : State) → SameState a a
 unfolding SameState

@@ -1,5 +1,5 @@
--- The lengths in bytes of what the caller lends: a state of 34 words, the last one its number (W7). "Input, store and
--- output maps: 32 bytes." "An instant, a run and a journal check shall work in 128 bytes of scratch" (W4).
+-- The lengths in bytes of what the caller lends: a state of 34 words, the last one its number (W7). "Input, store and output
+-- maps: 32 bytes." "An instant, a run and a journal check shall work in 128 bytes of scratch" (W4).
 --     unnumbered_bytes                     a state's 33 words without its number
 --     state_bytes, map_bytes, scratch_bytes
 --     no_scratch                           a scratch that is all zero

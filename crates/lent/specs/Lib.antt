@@ -1,4 +1,3 @@
 pub mod Lengths
 pub mod States
-pub mod Lawful
 pub mod Scratch

@@ -1,7 +1,7 @@
 -- "Word 0 is 0xF0000000 running or 0xF0000001 aborted; agent i is bit (i mod 32) of word 1 + i div 32. An aborted state
--- has no agents." "Any set of the score's agents is a lawful state." "The state gains a last word, the number of
--- instants run since the start, aborted ones included: 34 words, the start state with 0" (W7). The number stands beside
--- the state of the language, which has none.
+-- has no agents. Any set of the score's agents is a lawful state." "The state gains a last word, the number of instants run
+-- since the start, aborted ones included: 34 words, the start state with 0" (W7). The number stands beside the state of the
+-- language, which has none.
 --     running_word, aborted_word
 --     agents_in                the agents awake in a state, rising
 --     state_fault              whether bytes meet number 9, at a score with n agents
@@ -14,8 +14,11 @@
 --     next_bytes               the state that an answered instant leaves: one more has been run
 --     last_number, at_last     an instant that is wanted there meets number 18
 --     SameButNumber            states that differ at most in their numbers
-use Rattle.std.specs.Prelude.{◌≡◌, Bool, cond, ◌&&◌, ◌||◌, not, List, [], ◌∷◌, ◌++◌, map, ℕ, suc, ◌+◌, ◌*◌, ◌/◌, ◌%◌, ◌<◌, eqb, leb, length}
-use Rattle.laws.specs.Sets.{below, keep, any, has}
+--     LawfulState              a state of a score with n agents
+--     SameState                two states with the same agents
+use Rattle.std.specs.Prelude.{◌≡◌, Bool, cond, ◌&&◌, ◌||◌, not, ℕ, suc, ◌+◌, ◌*◌, ◌/◌, ◌%◌, ◌<◌, eqb, leb, length}
+use mathlib.Core.List.{List, [], ◌∷◌, ◌++◌, map, Memᴰ}
+use Rattle.laws.specs.Sets.{Same, below, keep, any, has}
 use Rattle.tcc.specs.Score.{Score}
 use Rattle.tcc.specs.Instant.{State, running, aborted, start_state, Answer, after}
 use Rattle.words.specs.Word.{word_at}
@@ -71,3 +74,13 @@ at_last s = eqb (instant_number s) last_number
 pub record SameButNumber (s t : List ℕ) : Type 0 where
   pub long : length s ≡ length t
   pub words : (i : ℕ) → i < 33 → word_at s i ≡ word_at t i
+
+unfoldable pub LawfulState : ℕ → State → Type 0
+LawfulState n (running agents) = (i : ℕ) → Memᴰ i agents → i < n
+LawfulState n aborted = Unit
+
+unfoldable pub SameState : State → State → Type 0
+SameState (running a) (running b) = Same a b
+SameState (running a) aborted = ⊥
+SameState aborted (running b) = ⊥
+SameState aborted aborted = Unit

@@ -1,8 +1,7 @@
 // What the caller lends: its lengths; states as bytes, read to flags and written from them, and their numbers.
 ghost use Rattle.std.specs.Prelude.{◌≡◌, false, [], ◌∷◌, ◌++◌, ℕ, ◌≤◌, length, get_or, take, drop, leb};
 ghost use Rattle.laws.specs.Sets.{any};
-ghost use Rattle.flags.specs.Flags.{flags_of};
-ghost use Rattle.flags.specs.Members.{set_of};
+ghost use Rattle.flags.specs.Flags.{set_of, flags_of};
 ghost use Rattle.bits.specs.Bits.{bytes_of};
 ghost use Rattle.lent.specs.Lengths.{unnumbered_bytes, state_bytes};
 ghost use Rattle.lent.specs.States.{agents_in, state_fault, agent_words, instant_number};

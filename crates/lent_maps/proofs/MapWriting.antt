@@ -11,7 +11,7 @@ use lib.ListN.{length, get_or, set, drop, drop_of_length-le}
 use lib.Seq.{drop-cons, set_at, append_snoc}
 use Rattle.laws.specs.Sets.{below, has}
 use Rattle.laws.proofs.Lists.{map_snoc, map_same}
-use Rattle.flags.specs.Members.{set_of}
+use Rattle.flags.specs.Flags.{set_of}
 use Rattle.bits.specs.Bits.{bits_value}
 use Rattle.lent.specs.Lengths.{map_bytes}
 use Rattle.lent.proofs.Gathered.{gathered, parts_length, from_set}

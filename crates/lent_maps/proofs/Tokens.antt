@@ -13,8 +13,7 @@ use lib.ListN.{get_or}
 use Rattle.laws.specs.Sets.{below}
 use Rattle.laws.proofs.Sets.{Within, on_keep, below_lt}
 use Rattle.words.specs.Map.{in_map}
-use Rattle.flags.specs.Flags.{flags_of}
-use Rattle.flags.specs.Members.{set_of}
+use Rattle.flags.specs.Flags.{set_of, flags_of}
 use Rattle.bits.specs.Bits.{bit_at}
 use Rattle.bits.specs.Spread.{Spread}
 use Rattle.bits.proofs.Filled.{Upto, upto_spread, upto_flags, set_kept}

@@ -1,7 +1,6 @@
 // Token maps as bytes, read to flags and written from them.
 ghost use Rattle.std.specs.Prelude.{◌≡◌, false, ℕ, ◌≤◌, length, get_or};
-ghost use Rattle.flags.specs.Flags.{flags_of};
-ghost use Rattle.flags.specs.Members.{set_of};
+ghost use Rattle.flags.specs.Flags.{set_of, flags_of};
 ghost use Rattle.lent.specs.Lengths.{map_bytes};
 ghost use Rattle.lent_maps.specs.Maps.{tokens_in, map_of};
 

@@ -15,7 +15,6 @@ use Rattle.journal_run.proofs.RunExits.{turned}
 use Rattle.score_answer.specs.Answer.{packed, number_in}
 use Rattle.score_answer.specs.Replies.{of_run_reply}
 use Rattle.score.specs.ScoreRun.{ScoreRun}
-use Rattle.score.proofs.Slices.{state_slice}
 use Rattle.runner_run.specs.Played.{from_start, Played}
 
 module _ (score inputs state journal : List ℕ) (starts : verdict_number (verdict score) ≡ 0 → state ≡ start_bytes (decode score)) where
@@ -46,7 +45,7 @@ module _ (score inputs state journal : List ℕ) (starts : verdict_number (verdi
       record {
         left = (exit score inputs (from_start score journal)).lent;
         answer = a;
-        ran = record { lent = (c.lent.0, (c.lent.1.0, (state_slice _ 0, c.lent.1.1.1))); written = refl; answered = c.answered ∙ ap (λ r. packed (of_run_reply r)) alike.replies };
+        ran = record { lent = c.lent; written = refl; answered = c.answered ∙ ap (λ r. packed (of_run_reply r)) alike.replies };
         journal_is = ap (λ (l : Lent). l.journal) c.written ∙ alike.journals;
         number_is = e;
       }

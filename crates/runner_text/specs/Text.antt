@@ -12,5 +12,4 @@ digit_at w lowest = digit (field w lowest 4)
 
 abbrev pub line : ℕ → List ℕ
 line w =
-    digit_at w 28 ∷ digit_at w 24 ∷ digit_at w 20 ∷ digit_at w 16 ∷ digit_at w 12 ∷ digit_at w 8 ∷ digit_at w 4 ∷ digit_at w 0
-    ∷ 10 ∷ []
+    digit_at w 28 ∷ digit_at w 24 ∷ digit_at w 20 ∷ digit_at w 16 ∷ digit_at w 12 ∷ digit_at w 8 ∷ digit_at w 4 ∷ digit_at w 0 ∷ 10 ∷ []

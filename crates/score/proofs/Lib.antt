@@ -1,4 +1,3 @@
-pub mod Slices
 pub mod CheckCall
 pub mod ScoreInstant
 pub mod ScoreRun

@@ -7,7 +7,7 @@
 --     one_answer       two calls that return the same number replied the same
 use mathlib.Core.Path.{◌≡◌, refl, sym, ap, subst⁻¹, ◌∙◌}
 use mathlib.Core.Bool.{Bool, true, false, cond, not}
-use mathlib.Core.List.{List, [], ◌∷◌}
+use mathlib.Core.List.{List}
 use Prim.Native.Nat.{ℕ, ◌^◌, ◌<◌, ◌≤◌}
 use native.Mathlib.Omega.{arith}
 use borrow.Author.Tests.{le-leb, ne_eqb, eqb-false}
@@ -37,7 +37,6 @@ use Rattle.score_answer.specs.Replies.{of_reply}
 use Rattle.score_answer.proofs.Answer.{exact}
 use Rattle.score_answer.proofs.Replies.{reply_number, reply_value, reply_fits}
 use Rattle.score.specs.ScoreInstant.{ScoreInstant, OneExit, OneAnswer}
-use Rattle.score.specs.Slice.{Slices}
 
 pub one_exit : OneExit
 one_exit score input before after₁ after₂ a b p q = (p.written ∙ sym q.written, p.answered ∙ sym q.answered)
@@ -119,8 +118,8 @@ module _ {score given : List ℕ} {l m : Lent} {r : Replied} (called : InstantCa
   pub called_fits : Fits (of_reply r)
   called_fits = subst⁻¹ (λ (x : Replied). Fits (of_reply x)) (ap (λ (e : Exit). e.reply) called.exits) (fits score given l)
 
-  pub returned : {a : ℕ} → Slices (score ∷ given ∷ l.state ∷ l.store ∷ l.output ∷ l.scratch ∷ []) → a ≡ packed (of_reply r) → ScoreInstant score given l m a
-  returned s e = record { lent = s; written = ap (λ (x : Exit). x.lent) called.exits; answered = e ∙ ap (λ (x : Exit). packed (of_reply x.reply)) called.exits }
+  pub returned : {a : ℕ} → a ≡ packed (of_reply r) → ScoreInstant score given l m a
+  returned e = record { written = ap (λ (x : Exit). x.lent) called.exits; answered = e ∙ ap (λ (x : Exit). packed (of_reply x.reply)) called.exits }
 
 pub read : (score given : List ℕ) (l m : Lent) (a : ℕ) → ScoreInstant score given l m a → Reads a (of_reply (exit score given l).reply)
 read score given l m a c = rw c.answered (exact (of_reply (exit score given l).reply) (fits score given l))

@@ -7,7 +7,7 @@
 --                      so has what a run call replies, and returning it, packed, meets the contract
 --     read             a caller reads the reply's number and value
 use mathlib.Core.Path.{◌≡◌, sym, ap, subst⁻¹, ◌∙◌}
-use mathlib.Core.List.{List, [], ◌∷◌}
+use mathlib.Core.List.{List}
 use Prim.Native.Nat.{ℕ, ◌/◌, ◌^◌, ◌<◌}
 use native.Mathlib.Omega.{arith}
 use lib.ListN.{length}
@@ -24,7 +24,7 @@ use Rattle.score_answer.specs.Replies.{of_run_reply}
 use Rattle.score_answer.proofs.Answer.{exact}
 use Rattle.score_answer.proofs.Replies.{reply_fits}
 use Rattle.score.specs.ScoreRun.{ScoreRun, OneExit}
-use Rattle.score.specs.Slice.{Slice, Slices}
+use Rattle.score.specs.Slice.{Slice}
 
 pub one_exit : OneExit
 one_exit score inputs before after₁ after₂ a b p q = (p.written ∙ sym q.written, p.answered ∙ sym q.answered)
@@ -48,12 +48,12 @@ pub fits : (score inputs : List ℕ) (l : Lent) → Slice inputs → Fits (of_ru
 fits score inputs l s = proper_fits (words_few inputs s) (run_proper score inputs l)
 
 -- of what a run call ensures
-module _ {score inputs : List ℕ} {l m : Lent} {r : Replied} (s : Slices (score ∷ inputs ∷ l.state ∷ l.journal ∷ l.scratch ∷ [])) (called : RunCall score inputs l m r) where
+module _ {score inputs : List ℕ} {l m : Lent} {r : Replied} (s : Slice inputs) (called : RunCall score inputs l m r) where
   pub called_fits : Fits (of_run_reply r)
-  called_fits = subst⁻¹ (λ (x : Replied). Fits (of_run_reply x)) (ap (λ (e : Exit). e.reply) called.exits) (fits score inputs l s.1.0)
+  called_fits = subst⁻¹ (λ (x : Replied). Fits (of_run_reply x)) (ap (λ (e : Exit). e.reply) called.exits) (fits score inputs l s)
 
   pub returned : {a : ℕ} → a ≡ packed (of_run_reply r) → ScoreRun score inputs l m a
   returned e = record { lent = s; written = ap (λ (x : Exit). x.lent) called.exits; answered = e ∙ ap (λ (x : Exit). packed (of_run_reply x.reply)) called.exits }
 
 pub read : (score inputs : List ℕ) (l m : Lent) (a : ℕ) → ScoreRun score inputs l m a → Reads a (of_run_reply (exit score inputs l).reply)
-read score inputs l m a c = rw c.answered (exact (of_run_reply (exit score inputs l).reply) (fits score inputs l c.lent.1.0))
+read score inputs l m a c = rw c.answered (exact (of_run_reply (exit score inputs l).reply) (fits score inputs l c.lent))

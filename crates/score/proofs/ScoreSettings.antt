@@ -7,7 +7,7 @@
 --     one_answer       two calls that return the same number replied the same
 use mathlib.Core.Path.{◌≡◌, refl, sym, ap, subst⁻¹, ◌∙◌}
 use mathlib.Core.Bool.{cond}
-use mathlib.Core.List.{List, [], ◌∷◌}
+use mathlib.Core.List.{List}
 use Prim.Native.Nat.{ℕ}
 use native.Mathlib.Omega.{arith}
 use borrow.Author.Tests.{le-leb, ne_eqb}
@@ -30,7 +30,6 @@ use Rattle.score_answer.specs.Replies.{of_settings}
 use Rattle.score_answer.proofs.Answer.{exact}
 use Rattle.score_answer.proofs.Replies.{reply_number, reply_value, reply_fits}
 use Rattle.score.specs.ScoreSettings.{ScoreSettings, OneExit, OneAnswer}
-use Rattle.score.specs.Slice.{Slices}
 
 pub one_exit : OneExit
 one_exit score state switches k a b p q = p.answered ∙ sym q.answered
@@ -51,8 +50,8 @@ module _ (score state switches : List ℕ) (k : ℕ) where
     pub called_fits : Fits (of_settings r)
     called_fits = subst⁻¹ (λ (x : Replied). Fits (of_settings x)) called.replies fits
 
-    pub returned : {a : ℕ} → Slices (score ∷ state ∷ switches ∷ []) → a ≡ packed (of_settings r) → ScoreSettings score state switches k a
-    returned s e = record { lent = s; answered = e ∙ ap (λ (x : Replied). packed (of_settings x)) called.replies }
+    pub returned : {a : ℕ} → a ≡ packed (of_settings r) → ScoreSettings score state switches k a
+    returned e = record { answered = e ∙ ap (λ (x : Replied). packed (of_settings x)) called.replies }
 
   pub read : (a : ℕ) → ScoreSettings score state switches k a → Reads a (of_settings (reply score state switches k))
   read a c = rw c.answered (exact (of_settings (reply score state switches k)) fits)

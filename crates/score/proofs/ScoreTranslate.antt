@@ -7,7 +7,7 @@
 --                      so has what a translation replies, and returning it, packed, meets the contract
 --     read             a caller reads the reply's number and value
 use mathlib.Core.Path.{◌≡◌, sym, ap, subst⁻¹, ◌∙◌}
-use mathlib.Core.List.{List, [], ◌∷◌}
+use mathlib.Core.List.{List}
 use Prim.Native.Nat.{ℕ, ◌<◌}
 use native.Mathlib.Omega.{arith}
 use Rattle.laws.proofs.Lists.{on_entries}
@@ -24,7 +24,7 @@ use Rattle.score_answer.specs.Replies.{of_translation}
 use Rattle.score_answer.proofs.Answer.{exact}
 use Rattle.score_answer.proofs.Replies.{reply_fits}
 use Rattle.score.specs.ScoreTranslate.{ScoreTranslate, OneExit}
-use Rattle.score.specs.Slice.{Slice, Slices}
+use Rattle.score.specs.Slice.{Slice}
 
 pub one_exit : OneExit
 one_exit draft before after₁ after₂ a b p q = (p.written ∙ sym q.written, p.answered ∙ sym q.answered)
@@ -42,12 +42,12 @@ pub fits : (draft before : List ℕ) → Slice draft → Fits (of_translation (e
 fits draft before lent = outcome_fits lent (outcome draft before)
 
 -- of what a translation ensures
-module _ {draft before after : List ℕ} {r : Replied} (s : Slices (draft ∷ before ∷ [])) (called : TranslateCall draft before after r) where
+module _ {draft before after : List ℕ} {r : Replied} (s : Slice draft) (called : TranslateCall draft before after r) where
   pub called_fits : Fits (of_translation r)
-  called_fits = subst⁻¹ (λ (x : Replied). Fits (of_translation x)) (ap (λ (e : Exit). e.reply) called.exits) (fits draft before s.0)
+  called_fits = subst⁻¹ (λ (x : Replied). Fits (of_translation x)) (ap (λ (e : Exit). e.reply) called.exits) (fits draft before s)
 
   pub returned : {a : ℕ} → a ≡ packed (of_translation r) → ScoreTranslate draft before after a
   returned e = record { lent = s; written = ap (λ (x : Exit). x.plain) called.exits; answered = e ∙ ap (λ (x : Exit). packed (of_translation x.reply)) called.exits }
 
 pub read : (draft before after : List ℕ) (a : ℕ) → ScoreTranslate draft before after a → Reads a (of_translation (exit draft before).reply)
-read draft before after a c = rw c.answered (exact (of_translation (exit draft before).reply) (fits draft before c.lent.0))
+read draft before after a c = rw c.answered (exact (of_translation (exit draft before).reply) (fits draft before c.lent))

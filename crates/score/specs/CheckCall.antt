@@ -6,10 +6,8 @@ use Rattle.std.specs.Prelude.{◌≡◌, List, ℕ}
 use Rattle.check_score.specs.Check.{verdict}
 use Rattle.score_answer.specs.Answer.{packed}
 use Rattle.score_answer.specs.Replies.{of_verdict}
-use Rattle.score.specs.Slice.{Slice}
 
 pub record CheckCall (score : List ℕ) (answer : ℕ) : Type 0 where
-  pub lent : Slice score
   pub answered : answer ≡ packed (of_verdict (verdict score))
 
 abbrev pub OneExit : Type 0

@@ -4,14 +4,12 @@
 --                       and after, and the number returned
 --     OneExit           it settles every byte of those buffers and the number returned
 --     OneAnswer         two calls that return the same number replied the same
-use Rattle.std.specs.Prelude.{◌≡◌, List, [], ◌∷◌, ℕ}
+use Rattle.std.specs.Prelude.{◌≡◌, List, ℕ}
 use Rattle.instant_call.specs.InstantCall.{Lent, exit}
 use Rattle.score_answer.specs.Answer.{packed}
 use Rattle.score_answer.specs.Replies.{of_reply}
-use Rattle.score.specs.Slice.{Slices}
 
 pub record ScoreInstant (score input : List ℕ) (before after : Lent) (answer : ℕ) : Type 0 where
-  pub lent : Slices (score ∷ input ∷ before.state ∷ before.store ∷ before.output ∷ before.scratch ∷ [])
   pub written : after ≡ (exit score input before).lent
   pub answered : answer ≡ packed (of_reply (exit score input before).reply)
 

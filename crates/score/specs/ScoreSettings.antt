@@ -1,22 +1,18 @@
 -- What a call of score_settings does: it writes nothing, and returns its reply as a number.
---     ScoreSettings     the call's contract, over the bytes of the score, of the state and of the switches, how many
---                       are pressed, and the number returned
+--     ScoreSettings     the call's contract, over the bytes of the score, of the state and of the switches, how many are
+--                       pressed, and the number returned
 --     OneExit           it settles the number returned
 --     OneAnswer         two calls that return the same number replied the same
-use Rattle.std.specs.Prelude.{◌≡◌, List, [], ◌∷◌, ℕ}
+use Rattle.std.specs.Prelude.{◌≡◌, List, ℕ}
 use Rattle.settings_call.specs.SettingsCall.{reply}
 use Rattle.score_answer.specs.Answer.{packed}
 use Rattle.score_answer.specs.Replies.{of_settings}
-use Rattle.score.specs.Slice.{Slices}
 
 pub record ScoreSettings (score state switches : List ℕ) (k answer : ℕ) : Type 0 where
-  pub lent : Slices (score ∷ state ∷ switches ∷ [])
   pub answered : answer ≡ packed (of_settings (reply score state switches k))
 
 abbrev pub OneExit : Type 0
-OneExit =
-    (score state switches : List ℕ) (k a b : ℕ) → ScoreSettings score state switches k a →
-    ScoreSettings score state switches k b → a ≡ b
+OneExit = (score state switches : List ℕ) (k a b : ℕ) → ScoreSettings score state switches k a → ScoreSettings score state switches k b → a ≡ b
 
 abbrev pub OneAnswer : Type 0
 OneAnswer =

@@ -1,8 +1,8 @@
--- An answer as one number of 64 bits. The top three bits say how the rest is laid out: 0, accepted, with the value in
--- the other 61; 1, the number in bits 7 to 0, the value in bits 31 to 8, and of an accepted instant, whose number is 0,
--- the status in bits 33 and 32 and the count in bits 44 to 34; 2, 3, 4 and 7, the numbers 13, 14, 15 and 18, whose
--- value may be as large as a slice's count of words, with the value in the other 61; 5, settings counted, whose number
--- is 0, those of status 0 in bits 13 to 0, of 1 in bits 27 to 14, of 2 in bits 41 to 28.
+-- An answer as one number of 64 bits. The top three bits say how the rest is laid out: 0, accepted, with the value
+-- in the other 61; 1, the number in bits 7 to 0, the value in bits 31 to 8, and of an accepted instant, whose number
+-- is 0, the status in bits 33 and 32 and the count in bits 44 to 34; 2, 3, 4 and 7, the numbers 13, 14, 15 and 18, whose
+-- value may be as large as a slice's count of words, with the value in the other 61; 5, settings counted, whose number is
+-- 0, those of status 0 in bits 13 to 0, of 1 in bits 27 to 14, of 2 in bits 41 to 28.
 --     Reply                      accepted with a value, refused by number with a value, an instant accepted with its
 --                                status and count, or settings counted by their statuses
 --     reply                      the answer with a number and a value
@@ -78,13 +78,10 @@ abbrev pub layout : ℕ → ℕ
 layout answer = answer / 2 ^ 61
 
 unfoldable pub number_in : ℕ → ℕ
-number_in answer =
-    cond (eqb (layout answer) 0
-    || eqb (layout answer) 5) 0 (cond (eqb (layout answer) 1) (answer % 2 ^ 8) (layout answer + 11))
+number_in answer = cond (eqb (layout answer) 0 || eqb (layout answer) 5) 0 (cond (eqb (layout answer) 1) (answer % 2 ^ 8) (layout answer + 11))
 
 unfoldable pub value_in : ℕ → ℕ
-value_in answer =
-    cond (eqb (layout answer) 1) (answer / 2 ^ 8 % 2 ^ 24) (cond (eqb (layout answer) 5) 0 (answer % 2 ^ 61))
+value_in answer = cond (eqb (layout answer) 1) (answer / 2 ^ 8 % 2 ^ 24) (cond (eqb (layout answer) 5) 0 (answer % 2 ^ 61))
 
 unfoldable pub status_in : ℕ → ℕ
 status_in answer = cond (eqb (layout answer) 1) (answer / 2 ^ 32 % 2 ^ 2) 0

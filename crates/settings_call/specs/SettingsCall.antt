@@ -1,5 +1,5 @@
--- What a call that counts settings does with what it is lent: it writes nothing, and replies by numbers 1 to 9 and 17
--- of the table, in their order, or with the three numbers.
+-- What a call that counts settings does with what it is lent: it writes nothing, and replies by numbers 1 to 9 and 17 of the
+-- table, in their order, or with the three numbers.
 --     press_fault      number 17: a fault in the switches, or "k above their number"
 --     reply            the whole call
 --     SettingsCall     its contract

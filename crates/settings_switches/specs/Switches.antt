@@ -13,5 +13,4 @@ repeated [] = false
 repeated (t ∷ l) = has t l || repeated l
 
 unfoldable pub switch_fault : ℕ → List ℕ → Bool
-switch_fault tokens switches =
-    leb (suc most_switches) (length switches) || repeated switches || any (λ t. leb tokens t) switches
+switch_fault tokens switches = leb (suc most_switches) (length switches) || repeated switches || any (λ t. leb tokens t) switches

@@ -19,7 +19,7 @@ use lib.Seq.{drop-cons, take_all, set-set, set-get_or}
 use Rattle.laws.specs.Sets.{Same}
 use Rattle.tcc.specs.Score.{Score}
 use Rattle.tcc.specs.Instant.{State}
-use Rattle.flags.specs.Members.{set_of}
+use Rattle.flags.specs.Flags.{set_of}
 use Rattle.flags.proofs.Flags.{set_kept, set_here, set_cases}
 use Rattle.settings_tried.specs.Settings.{settings, counts}
 use Rattle.settings_tried.proofs.Counting.{plus, counts_none, counts_map, counts_few, counted, counts_first, settings_over}

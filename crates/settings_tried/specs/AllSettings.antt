@@ -1,9 +1,9 @@
--- The settings that are tried are "the settings with exactly k switches pressed": the sets of exactly k of the
--- switches, each once.
+-- The settings that are tried are "the settings with exactly k switches pressed": the sets of exactly k of the switches, each
+-- once.
 --     Setting          a set of exactly k of the switches
 --     same_tokens      whether two sets have the same tokens
---     AllSettings      of distinct switches, each that is tried is a setting; and of those tried exactly one has the
---                      tokens of any given setting
+--     AllSettings      of distinct switches, each that is tried is a setting; and of those tried exactly one has the tokens of
+--                      any given setting
 use Rattle.std.specs.Prelude.{◌≡◌, Bool, false, ◌&&◌, ℕ, length}
 use mathlib.Core.List.{List, Memᴰ}
 use Rattle.laws.specs.Sets.{keep, every, has}

@@ -15,5 +15,4 @@ abbrev pub AddUp : Type 0
 AddUp =
     (sc : Score) (st : State) (k : ℕ) (switches : List ℕ) →
     let c = counts sc st (settings k switches) in
-    (length (settings k switches) ≡ choose (length switches) k)
-    × (c.quiet + c.clashed + c.aborted ≡ choose (length switches) k)
+    (length (settings k switches) ≡ choose (length switches) k) × (c.quiet + c.clashed + c.aborted ≡ choose (length switches) k)

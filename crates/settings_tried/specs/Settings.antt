@@ -1,5 +1,5 @@
--- "count how many of the settings with exactly k switches pressed end with status 0, with 1 and with 2, each setting
--- tried from that same state. The three numbers come from the definition of an instant" (W6).
+-- "count how many of the settings with exactly k switches pressed end with status 0, with 1 and with 2, each setting tried
+-- from that same state. The three numbers come from the definition of an instant" (W6).
 --     settings      the settings with exactly k of the switches pressed: those with the first one, then those without
 --     ending        how many of some settings end with a status, each tried with exactly its tokens as input
 --     counts        how many end with status 0, with 1 and with 2

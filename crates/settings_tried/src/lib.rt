@@ -3,7 +3,7 @@ ghost use Rattle.std.specs.Prelude.{◌≡◌, [], ◌∷◌, ◌++◌, map, ◌
 ghost use Rattle.tcc.specs.Instant.{answer};
 ghost use Rattle.format.specs.Decode.{decode};
 ghost use Rattle.instant_prepared.specs.Prepared.{PreparedFrom};
-ghost use Rattle.flags.specs.Members.{set_of};
+ghost use Rattle.flags.specs.Flags.{set_of};
 ghost use Rattle.settings_switches.specs.Switches.{most_switches};
 ghost use Rattle.settings_tried.specs.Settings.{settings, counts};
 ghost use Rattle.settings_tried.specs.Standing.{state_from};

@@ -2,8 +2,7 @@
 --     Chain          finished, unaborted orders at each instant, each starting with the very multiset that the one
 --                    before left awake; from the copies that the first starts with to those that the last leaves awake
 --     Along          at the instant after a chain, for any order there: it is no longer than its weight, it ends as the
---                    state machine answers if it is finished, and there is a finished order; the state before it is
---                    running
+--                    state machine answers if it is finished, and there is a finished order; the state before it is running
 use Rattle.std.specs.Prelude.{◌≡◌, List, [], ◌∷◌, ℕ, ◌≤◌, length}
 use Rattle.laws.specs.Sets.{Same}
 use Rattle.tcc.specs.Score.{Score}
@@ -24,12 +23,9 @@ pub record AtInstant (sc : Score) (w : ℕ → ℕ) (state : State) (copies inpu
   pub agents : List ℕ
   pub is_running : state ≡ running agents
   pub same_agents : Same copies agents
-  pub bounded : (s : List ℕ) (steps : List Item) (e : End) → Order sc (start copies inputs) s steps e →
-      length steps ≤ total w copies inputs
-  pub ends : (s : List ℕ) (steps : List Item) (e : End) → Closes sc [] s → Order sc (start copies inputs) s steps e →
-      Finished sc e → EndsAs sc e (answer sc state inputs)
-  pub finishes : (s : List ℕ) → (steps : List Item) × (e : End) × Order sc (start copies inputs) s steps e
-      × Finished sc e
+  pub bounded : (s : List ℕ) (steps : List Item) (e : End) → Order sc (start copies inputs) s steps e → length steps ≤ total w copies inputs
+  pub ends : (s : List ℕ) (steps : List Item) (e : End) → Closes sc [] s → Order sc (start copies inputs) s steps e → Finished sc e → EndsAs sc e (answer sc state inputs)
+  pub finishes : (s : List ℕ) → (steps : List Item) × (e : End) × Order sc (start copies inputs) s steps e × Finished sc e
 
 abbrev pub Along : Type 0
 Along =

@@ -30,8 +30,7 @@ module _ {A : Type 0} (same : A → A → Bool) where
   -- n bounds the rules left, one of which goes at each turn
   unfoldable pub close_within : ℕ → List (Rule A) → List A → List A
   close_within zero rules s = s
-  close_within (suc n) rules s =
-      elim (firing s rules) [ silent ↦ s | found r rest ↦ close_within n rest (r.conclusion ∷ s) ]
+  close_within (suc n) rules s = elim (firing s rules) [ silent ↦ s | found r rest ↦ close_within n rest (r.conclusion ∷ s) ]
 
   unfoldable pub close : List (Rule A) → List A → List A
   close rules s = close_within (length rules) rules s

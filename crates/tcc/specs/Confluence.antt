@@ -34,5 +34,4 @@ Reduced =
     (sc : Score) (agents copies inputs s s' : List ℕ) (steps l : List Item) →
     Same copies agents → Closes sc [] s → Order sc (start copies inputs) s steps (left l s') → Quiet sc l s' →
     (i : ℕ) → i < length sc.agents →
-    (Memᴰ (agent i) steps → Memᴰ i (instant sc agents inputs).reduced)
-    × (Memᴰ i (instant sc agents inputs).reduced → Memᴰ (agent i) steps)
+    (Memᴰ (agent i) steps → Memᴰ i (instant sc agents inputs).reduced) × (Memᴰ i (instant sc agents inputs).reduced → Memᴰ (agent i) steps)

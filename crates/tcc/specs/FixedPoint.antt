@@ -1,12 +1,11 @@
--- Contracts of inner functions: the interface for engines. An engine keeps marks: which agents are live, which tokens
--- are held. Marks that only ever follow from what an instant starts with are sound; marks that nothing can be added to
--- are closed. Sound and closed marks are the instant's answer, and sound marks that show a live abort are an aborted
--- instant, closed or not.
+-- Contracts of inner functions: the interface for engines. An engine keeps marks: which agents are live, which tokens are
+-- held. Marks that only ever follow from what an instant starts with are sound; marks that nothing can be added to are
+-- closed. Sound and closed marks are the instant's answer, and sound marks that show a live abort are an aborted instant,
+-- closed or not.
 --     Closed         marks hold the start and are closed under each agent's effect, the rules and the clash
 --     Reach          marks that the instant itself makes: they are closed
 --     Sound          every mark is one of the instant's
---     Settles        sound and closed marks, with no live abort, give the instant's store, status, agents reduced,
---                    agents awake
+--     Settles        sound and closed marks, with no live abort, give the instant's store, status, agents reduced, agents awake
 --     Aborts         sound marks with a live abort give the aborted answer
 --     StaysKnown     the next state's agents are the score's, and the store's tokens are below T
 use Rattle.std.specs.Prelude.{◌≡◌, ℕ, ◌<◌}
@@ -25,8 +24,7 @@ pub record Closed (sc : Score) (agents inputs : List ℕ) (Live Held : ℕ → T
   pub splits : (i a b : ℕ) → Live i → agent_at sc i ≡ Parallel a b → Live a × Live b
   pub calls : (i p : ℕ) → Live i → agent_at sc i ≡ Call p → Live (root_of sc p)
   pub awaits : (i t b : ℕ) → Live i → agent_at sc i ≡ When t b → Held t → Live b
-  pub rules : (r : Rule ℕ) → Memᴰ r sc.rules → ((p : ℕ) → Memᴰ p r.premises → Held p) →
-      Held r.conclusion
+  pub rules : (r : Rule ℕ) → Memᴰ r sc.rules → ((p : ℕ) → Memᴰ p r.premises → Held p) → Held r.conclusion
   pub clash : (t : ℕ) → Held 0 → t < sc.tokens → Held t
 
 pub record Sound (sc : Score) (agents inputs : List ℕ) (Live Held : ℕ → Type 0) : Type 0 where
@@ -36,8 +34,7 @@ pub record Sound (sc : Score) (agents inputs : List ℕ) (Live Held : ℕ → Ty
 abbrev pub Reach : Type 0
 Reach =
     (sc : Score) (agents inputs : List ℕ) →
-    Closed sc agents inputs (λ i. Memᴰ (live i) (reached sc agents inputs))
-    (λ t. Memᴰ (held t) (reached sc agents inputs))
+    Closed sc agents inputs (λ i. Memᴰ (live i) (reached sc agents inputs)) (λ t. Memᴰ (held t) (reached sc agents inputs))
 
 -- marks as lists, that is, sets
 abbrev pub Marked : List ℕ → ℕ → Type 0
@@ -65,7 +62,5 @@ Aborts =
 
 abbrev pub StaysKnown : Type 0
 StaysKnown =
-    (sc : Score) (agents inputs : List ℕ) → Lawful sc → AgentsBelow sc agents →
-    ((t : ℕ) → Memᴰ t inputs → t < sc.tokens) →
-    AgentsBelow sc (instant sc agents inputs).awake × ((t : ℕ) → Memᴰ t (instant sc agents inputs).store →
-    t < sc.tokens)
+    (sc : Score) (agents inputs : List ℕ) → Lawful sc → AgentsBelow sc agents → ((t : ℕ) → Memᴰ t inputs → t < sc.tokens) →
+    AgentsBelow sc (instant sc agents inputs).awake × ((t : ℕ) → Memᴰ t (instant sc agents inputs).store → t < sc.tokens)

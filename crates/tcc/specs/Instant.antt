@@ -34,8 +34,7 @@ abbrev pub effects : Score → ℕ → Agent → List (Rule Fact)
 effects sc i Skip = []
 effects sc i Abort = []
 effects sc i (Tell t) = record { premises = live i ∷ []; conclusion = held t } ∷ []
-effects sc i (Parallel a b) =
-    record { premises = live i ∷ []; conclusion = live a } ∷ record { premises = live i ∷ []; conclusion = live b } ∷ []
+effects sc i (Parallel a b) = record { premises = live i ∷ []; conclusion = live a } ∷ record { premises = live i ∷ []; conclusion = live b } ∷ []
 effects sc i (When t b) = record { premises = live i ∷ held t ∷ []; conclusion = live b } ∷ []
 effects sc i (Next b) = []
 effects sc i (Unless t b) = []
@@ -120,17 +119,10 @@ abbrev pub aborted_answer : Answer
 aborted_answer = record { status = 2; store = []; reduced = []; awake = [] }
 
 abbrev pub quiet_answer : Score → List ℕ → List ℕ → Answer
-quiet_answer sc store lives =
-    record {
-      status = cond (has 0 store) 1 0;
-      store = store;
-      reduced = reduced_of sc store lives;
-      awake = left_awake sc store lives;
-    }
+quiet_answer sc store lives = record { status = cond (has 0 store) 1 0; store = store; reduced = reduced_of sc store lives; awake = left_awake sc store lives }
 
 abbrev pub answer_of : Score → List Fact → Answer
-answer_of sc facts =
-    cond (any (λ i. is_abort (agent_at sc i)) (live_in facts)) aborted_answer (quiet_answer sc (held_in facts) (live_in facts))
+answer_of sc facts = cond (any (λ i. is_abort (agent_at sc i)) (live_in facts)) aborted_answer (quiet_answer sc (held_in facts) (live_in facts))
 
 unfoldable pub instant : Score → List ℕ → List ℕ → Answer
 instant sc agents inputs = answer_of sc (reached sc agents inputs)

@@ -4,8 +4,7 @@
 --     tokens_of              the tokens that an agent names
 --     parts_of                its body, or its halves
 --     procedures_of          the procedure that it calls
---     RuleFormed             a rule as a score can have it: no premise, or two
-use Rattle.std.specs.Prelude.{◌≡◌, List, [], ◌∷◌, ◌⊎◌, ℕ, get_or}
+use Rattle.std.specs.Prelude.{ℕ, List, [], ◌∷◌, get_or}
 use Rattle.tcc.specs.Closure.{Rule}
 use Rattle.tcc.specs.declared.Agent.{Agent}
 use Rattle.tcc.specs.declared.Agent.TheVariants.{Skip, Abort, Tell, Parallel, When, Next, Unless, Call}
@@ -53,6 +52,3 @@ procedures_of (When t b) = []
 procedures_of (Next b) = []
 procedures_of (Unless t b) = []
 procedures_of (Call p) = p ∷ []
-
-abbrev pub RuleFormed : Rule ℕ → Type 0
-RuleFormed r = (r.premises ≡ []) ⊎ ((p : ℕ) × (q : ℕ) × (r.premises ≡ p ∷ q ∷ []))

@@ -11,8 +11,7 @@ use Rattle.tcc.specs.Score.{Score}
 
 pub data Derived (sc : Score) (given : List ℕ) : ℕ → Type 0 where
   told : {t : ℕ} → Memᴰ t given → Derived sc given t
-  by_rule : {t : ℕ} (r : Rule ℕ) → Memᴰ r sc.rules →
-      ((p : ℕ) → Memᴰ p r.premises → Derived sc given p) → r.conclusion ≡ t → Derived sc given t
+  by_rule : {t : ℕ} (r : Rule ℕ) → Memᴰ r sc.rules → ((p : ℕ) → Memᴰ p r.premises → Derived sc given p) → r.conclusion ≡ t → Derived sc given t
   by_clash : {t : ℕ} → Derived sc given 0 → t < sc.tokens → Derived sc given t
 
 abbrev pub Closes : Score → List ℕ → List ℕ → Type 0

@@ -49,8 +49,7 @@ ways_from n [] = []
 ways_from n (a ∷ l) = ways n a ++ ways_from (suc n) l
 
 abbrev pub way_rules : Score → List (Rule Met)
-way_rules sc =
-    ways_from zero sc.agents ++ map (λ p. from (procedure p) (agent (root_of sc p))) (below (length sc.roots))
+way_rules sc = ways_from zero sc.agents ++ map (λ p. from (procedure p) (agent (root_of sc p))) (below (length sc.roots))
 
 -- all that an agent leads to, calls followed
 unfoldable pub met_from : Score → ℕ → List Met

@@ -1,8 +1,7 @@
 -- Every instant ends: an order, finished or broken off anywhere, is no longer than the summed weight of what it
 -- starts with, and every order can be carried on to a finished one.
 --     ItemsBelow      every agent of a multiset is one of the score's
---     OneWeight       of an accepted score the equations of weight have exactly one solution on its agents, the
---                     computed one
+--     OneWeight       of an accepted score the equations of weight have exactly one solution on its agents, the computed one
 --     WeightBound     the length of any order
 --     Finishes        from any multiset and store there is a finished order
 --     CarriesOn       so has every order that broke off a way to go on that is finished
@@ -34,6 +33,5 @@ Finishes =
 
 abbrev pub CarriesOn : Type 0
 CarriesOn =
-    (sc : Score) (l k steps : List Item) (s s' : List ℕ) → Lawful sc → ItemsBelow sc l →
-    Order sc l s steps (left k s') →
+    (sc : Score) (l k steps : List Item) (s s' : List ℕ) → Lawful sc → ItemsBelow sc l → Order sc l s steps (left k s') →
     (more : List Item) × (e : End) × Order sc l s (steps ++ more) e × Finished sc e

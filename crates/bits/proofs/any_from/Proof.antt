@@ -10,7 +10,7 @@ use native.Mathlib.Omega.{arith}
 use lib.Dec.{leb}
 use lib.ListN.{length, get_or, get_or-eq_default}
 use Rattle.laws.proofs.Any.{any_more, any_none, any_keep, any_beyond}
-use Rattle.flags.specs.Members.{set_of}
+use Rattle.flags.specs.Flags.{set_of}
 use Rattle.bits.proofs.any_from.Statement.{statement}
 use Rattle.bits.proofs.any_from.Tie as tie
 

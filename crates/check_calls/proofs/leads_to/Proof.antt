@@ -4,11 +4,10 @@ use mathlib.Core.List.{List, Memᴰ}
 use Prim.Native.Nat.{ℕ, ◌<◌}
 use borrow.Author.Rules.{rules}
 use native.Mathlib.Omega.{arith}
-use Rattle.laws.proofs.Sets.{holds_none}
 use Rattle.tcc.specs.Score.{parts_of, procedures_of}
 use Rattle.tcc.specs.declared.Agent.{Agent}
 use Rattle.check_calls.specs.Calls.{leads_by}
-use Rattle.check_calls.proofs.ProcedureSets.{holds_or, holds_one}
+use Rattle.check_calls.proofs.ProcedureSets.{in_set_none, in_set_or, in_set_one}
 use Rattle.check_calls.proofs.leads_to.Statement.{statement}
 use Rattle.check_calls.proofs.leads_to.Tie as tie
 
@@ -64,28 +63,28 @@ shl_result : tie.Need-overflow-shl-result
 shl_result c = members_below c.before.before.before.requires.1 (ap procedures_of c.before.agent3.given.1) (Memᴰ.head refl)
 
 returns : tie.Need-returns
-returns c = λ q h. holds_none q ∙ sym (ap (λ a. leads_by a c.before.before.args.sets.now q) c.enum_told.given.1)
+returns c = λ q h. in_set_none q ∙ sym (ap (λ a. leads_by a c.before.before.args.sets.now q) c.enum_told.given.1)
 
 returns_2 : tie.Need-returns-2
-returns_2 c = λ q h. holds_none q ∙ sym (ap (λ a. leads_by a c.before.before.args.sets.now q) c.enum-told2.given.1)
+returns_2 c = λ q h. in_set_none q ∙ sym (ap (λ a. leads_by a c.before.before.args.sets.now q) c.enum-told2.given.1)
 
 returns_3 : tie.Need-returns-3
-returns_3 c = λ q h. holds_none q ∙ sym (ap (λ a. leads_by a c.before.before.args.sets.now q) c.enum-told3.given.1)
+returns_3 c = λ q h. in_set_none q ∙ sym (ap (λ a. leads_by a c.before.before.args.sets.now q) c.enum-told3.given.1)
 
 returns_4 : tie.Need-returns-4
-returns_4 c = λ q h. holds_or _ _ q ∙ sym (ap (λ a. leads_by a c.before.before.before.before.before.args.sets.now q) c.before.before.before.agent.given.1)
+returns_4 c = λ q h. in_set_or _ _ q ∙ sym (ap (λ a. leads_by a c.before.before.before.before.before.args.sets.now q) c.before.before.before.agent.given.1)
 
 returns_5 : tie.Need-returns-5
 returns_5 c = λ q h. sym (ap (λ a. leads_by a c.before.before.before.before.args.sets.now q) c.before.before.agent2.given.1)
 
 returns_6 : tie.Need-returns-6
-returns_6 c = λ q h. holds_none q ∙ sym (ap (λ a. leads_by a c.before.before.args.sets.now q) c.enum-told4.given.1)
+returns_6 c = λ q h. in_set_none q ∙ sym (ap (λ a. leads_by a c.before.before.args.sets.now q) c.enum-told4.given.1)
 
 returns_7 : tie.Need-returns-7
-returns_7 c = λ q h. holds_none q ∙ sym (ap (λ a. leads_by a c.before.before.args.sets.now q) c.enum-told5.given.1)
+returns_7 c = λ q h. in_set_none q ∙ sym (ap (λ a. leads_by a c.before.before.args.sets.now q) c.enum-told5.given.1)
 
 returns_8 : tie.Need-returns-8
-returns_8 c = λ q h. holds_one c.before.agent3.given.0.0 q (shl_result c) ∙ sym (ap (λ a. leads_by a c.before.before.before.args.sets.now q) c.before.agent3.given.1)
+returns_8 c = λ q h. in_set_one c.before.agent3.given.0.0 q (shl_result c) ∙ sym (ap (λ a. leads_by a c.before.before.before.args.sets.now q) c.before.agent3.given.1)
 
 pub leads_to_spec : {M : Type 1} → statement M
 leads_to_spec =

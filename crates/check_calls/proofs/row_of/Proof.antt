@@ -10,8 +10,8 @@ use lib.Dec.{eqb}
 use lib.ListN.{length, length-set, get_or, replicate, get_or-replicate, get_or-eq_default}
 use lib.Pow.{shr-shr}
 use lib.Seq.{get_or-set_other}
-use Rattle.laws.specs.Sets.{holds}
 use Rattle.laws.proofs.Lists.{filled_more}
+use Rattle.check_calls.specs.Calls.{in_set}
 use Rattle.check_calls.proofs.row_of.Statement.{statement}
 use Rattle.check_calls.proofs.row_of.Tie as tie
 
@@ -30,8 +30,8 @@ room x q small le n = go (ℕ_discrete q 64)
     go (no d) = omega arith
 
 -- a flag past the last bit
-past : (x q : ℕ) → x / 2 ^ q ≡ 0 → (j : ℕ) (flag : Bool) → (j < q → flag ≡ holds x j) → (q ≤ j → flag ≡ false) → flag ≡ holds x j
-unfolding holds
+past : (x q : ℕ) → x / 2 ^ q ≡ 0 → (j : ℕ) (flag : Bool) → (j < q → flag ≡ in_set x j) → (q ≤ j → flag ≡ false) → flag ≡ in_set x j
+unfolding in_set
 past x q e j flag below above = go (dec_lt j q)
   where
     go : Dec (j < q) → flag ≡ eqb (x / 2 ^ j % 2) 1
@@ -42,7 +42,7 @@ past x q e j flag below above = go (dec_lt j q)
         above (omega arith) ∙ ap (λ n. eqb (n % 2) 1) (sym z)
 
 abbrev invariant-loop : tie.invariant-loop
-invariant-loop set row₀ rest₀ q₀ row rest q = (length row ≡ 64) × (q ≤ 64) × (rest ≡ set / 2 ^ q) × ((j : ℕ) → j < q → get_or row j false ≡ holds set j) × ((j : ℕ) → q ≤ j → get_or row j false ≡ false)
+invariant-loop set row₀ rest₀ q₀ row rest q = (length row ≡ 64) × (q ≤ 64) × (rest ≡ set / 2 ^ q) × ((j : ℕ) → j < q → get_or row j false ≡ in_set set j) × ((j : ℕ) → q ≤ j → get_or row j false ≡ false)
 
 abbrev decreases-loop : tie.decreases-loop
 decreases-loop set row₀ rest₀ q₀ row rest q = rest
@@ -60,7 +60,7 @@ loop_less : tie.Need-loop-smaller invariant-loop decreases-loop
 loop_less c = omega arith
 
 loop_again : tie.Need-loop-preserved invariant-loop decreases-loop
-unfolding holds
+unfolding in_set
 loop_again c =
     let x = c.before.before.args.set in
     let row = c.before.loop.row in
@@ -70,7 +70,7 @@ loop_again c =
       length-set row q _ ∙ h.0,
       omega arith,
       ap (λ n. n / 2) h.2 ∙ shr-shr x q 1,
-      filled_more (λ j v. v ≡ holds x j) row q _ false (omega arith) h.3 (ap (λ n. eqb (n % 2) 1) h.2),
+      filled_more (λ j v. v ≡ in_set x j) row q _ false (omega arith) h.3 (ap (λ n. eqb (n % 2) 1) h.2),
       λ j le. get_or-set_other row q j _ false (λ e. omega arith) ∙ h.4 j (omega arith),
     )
 

@@ -6,20 +6,19 @@ use borrow.Author.Rules.{rules}
 use native.Mathlib.Nat.{not-suc-le-zero}
 use native.Mathlib.Omega.{arith}
 use lib.ListN.{length, length-set, get_or}
-use Rattle.laws.specs.Sets.{holds}
 use Rattle.laws.proofs.Lists.{filled_more}
 use Rattle.tcc.specs.Score.{parts_of, procedures_of}
 use Rattle.tcc.specs.Unguarded.{Leads}
 use Rattle.format.specs.Decode.{decode}
 use Rattle.format.proofs.Decode.{sizes_few}
 use Rattle.check_faults.proofs.Accepted.{parts_lower, procedures_known}
-use Rattle.check_calls.specs.Calls.{Exactly, leads_by}
+use Rattle.check_calls.specs.Calls.{Exactly, in_set, leads_by}
 use Rattle.check_calls.proofs.Leads.{leads_exact}
 use Rattle.check_circles.proofs.gather.Statement.{statement}
 use Rattle.check_circles.proofs.gather.Tie as tie
 
 abbrev invariant-loop : tie.invariant-loop
-invariant-loop s agents sets₀ i₀ sets i = (length sets ≡ length sets₀) × (i ≤ agents) × ((j : ℕ) → j < i → (q : ℕ) → q < 64 → Exactly (holds (get_or sets j 0) q) (Leads (decode s) j q))
+invariant-loop s agents sets₀ i₀ sets i = (length sets ≡ length sets₀) × (i ≤ agents) × ((j : ℕ) → j < i → (q : ℕ) → q < 64 → Exactly (in_set (get_or sets j 0) q) (Leads (decode s) j q))
 
 abbrev decreases-loop : tie.decreases-loop
 decreases-loop s agents sets₀ i₀ sets i = agents - i
@@ -60,7 +59,7 @@ loop_again c =
     let h = c.before.before.before.before.loop.invariant in (
       length-set sets i _ ∙ h.0,
       omega arith,
-      filled_more (λ j v. (q : ℕ) → q < 64 → Exactly (holds v q) (Leads (decode s) j q)) sets i _ 0 (slice_write_sets c) h.2
+      filled_more (λ j v. (q : ℕ) → q < 64 → Exactly (in_set v q) (Leads (decode s) j q)) sets i _ 0 (slice_write_sets c) h.2
           (λ q lt.
           subst⁻¹ (λ t. Exactly t (Leads (decode s) i q)) (c.leads-to.ensures q lt ∙ ap (λ a. leads_by a sets q) c.before.before.agent_at_lem.ensures)
           (leads_exact (decode s) i q sets (λ n m. h.2 n (parts_lower s b.requires.1.0 i n m) q lt))),

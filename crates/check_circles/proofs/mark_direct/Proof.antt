@@ -7,14 +7,13 @@ use borrow.Author.Rules.{rules}
 use native.Mathlib.Nat.{not-suc-le-zero}
 use native.Mathlib.Omega.{arith}
 use lib.ListN.{length, length-set, get_or}
-use Rattle.laws.specs.Sets.{holds}
 use Rattle.laws.proofs.Lists.{filled_more}
 use Rattle.tcc.specs.Score.{root_of}
 use Rattle.tcc.specs.Unguarded.{Leads}
 use Rattle.format.specs.Decode.{sizes, decode}
 use Rattle.format.proofs.Decode.{decode_roots, sizes_few}
 use Rattle.check_faults.proofs.Accepted.{roots_known}
-use Rattle.check_calls.specs.Calls.{Exactly}
+use Rattle.check_calls.specs.Calls.{Exactly, in_set}
 use Rattle.check_circles.proofs.mark_direct.Statement.{statement}
 use Rattle.check_circles.proofs.mark_direct.Tie as tie
 
@@ -70,7 +69,7 @@ loop_again c =
       omega arith,
       filled_more (λ j v. (q : ℕ) → q < 64 → Exactly (get_or v q false) (Leads (decode s) (root_of (decode s) j) q)) rows p _ [] (omega (arith, sizes_few s)) h.2
           (λ q le.
-          subst⁻¹ (λ t. Exactly t (Leads (decode s) (root_of (decode s) p) q)) (c.row_of.ensures q le ∙ ap (λ r. holds (get_or sets r 0) q) c.before.before.root-of.ensures)
+          subst⁻¹ (λ t. Exactly t (Leads (decode s) (root_of (decode s) p) q)) (c.row_of.ensures q le ∙ ap (λ r. in_set (get_or sets r 0) q) c.before.before.root-of.ensures)
           (b.requires.1.1.1.0.exact (root_of (decode s) p) q (omega arith) le)),
     )
 

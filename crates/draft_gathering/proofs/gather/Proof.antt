@@ -12,8 +12,6 @@ use Rattle.draft_table.specs.Tables.{keys, Placed}
 use Rattle.draft_plain.proofs.Copying.{places_rising}
 use Rattle.draft_format.specs.DraftFile.{decode_draft}
 use Rattle.draft_format.specs.Translatable.{Translatable}
-use Rattle.draft_format.proofs.Draft.{accepted_whole}
-use Rattle.draft_copying.proofs.Copies.{overfull_misfit}
 use Rattle.draft_gathering.proofs.Limits.{Parted, table_parted, many_agents, many_procedures}
 use Rattle.draft_gathering.proofs.Stages.{accepted_translatable, pairs_gathered}
 use Rattle.draft_gathering.proofs.gather.Statement.{statement}
@@ -48,10 +46,10 @@ sizes_of_requires c κs = search rules
 copy_draft_requires : tie.Need-copy-draft-requires
 copy_draft_requires c κs =
     let b = c.before.before.before.before in
-    (translatable c.before.before.before, ((accepted_whole b.args.draft.now b.requires.0).most, (ap (λ h. h.agents) (head_is c.before), b.requires.1.0)))
+    (translatable c.before.before.before, (ap (λ h. h.agents) (head_is c.before), b.requires.1.0))
 
 returns : tie.Need-returns
-returns c = overfull_misfit _ (c.before.copy-draft.ensures.over c.if1.true)
+returns c = c.before.copy-draft.ensures.over c.if1.true
 
 row_of_requires : tie.Need-row-of-requires
 row_of_requires c κs = search rules

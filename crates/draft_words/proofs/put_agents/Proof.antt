@@ -10,7 +10,7 @@ use Rattle.draft_plain.specs.Plain.{plain_of}
 use Rattle.encoding.specs.Encode.{agent_word}
 use Rattle.bits.proofs.Put.{Putting, putting_none, putting_more, putting_all}
 use Rattle.draft_format.specs.DraftFile.{decode_draft}
-use Rattle.draft_words.proofs.Pairs.{copied_few, copied_many, agent_entry, agent_here, AgentFits, agent_fits}
+use Rattle.draft_words.proofs.Pairs.{agents_few, agents_many, agent_entry, agent_here, AgentFits, agent_fits}
 use Rattle.draft_words.proofs.put_agents.Statement.{statement}
 use Rattle.draft_words.proofs.put_agents.Tie as tie
 
@@ -31,10 +31,10 @@ loop_holds : tie.Need-loop-init invariant-loop decreases-loop
 loop_holds c = let a = c.before.before.args in (omega arith, refl, putting_none agent_word (plain_of (decode_draft a.draft.now)).agents 2 a.plain.now)
 
 mul_plain_agent : tie.Need-overflow-mul-plain-agent invariant-loop decreases-loop
-mul_plain_agent c = omega (arith, copied_few (to_start c.before.before).pre.0)
+mul_plain_agent c = omega (arith, agents_few (to_start c.before.before).pre.0)
 
 element_copy_out_plain_agent : tie.Need-element-copy-out-plain-agent invariant-loop decreases-loop
-element_copy_out_plain_agent c = omega (arith, copied_few (to_start c.before.before).pre.0)
+element_copy_out_plain_agent c = omega (arith, agents_few (to_start c.before.before).pre.0)
 
 plain_agent_requires : tie.Need-plain-agent-requires invariant-loop decreases-loop
 plain_agent_requires c κs =
@@ -54,13 +54,13 @@ agent_word_requires c κs =
     (f.tokens, (f.parts, f.procedures))
 
 add_put_word : tie.Need-overflow-add-put-word invariant-loop decreases-loop
-add_put_word c = omega (arith, copied_few (to_start (to_loop c.before)).pre.0)
+add_put_word c = omega (arith, agents_few (to_start (to_loop c.before)).pre.0)
 
 put_word_requires : tie.Need-put-word-requires invariant-loop decreases-loop
 put_word_requires c κs = omega arith
 
 add_k : tie.Need-overflow-add-k invariant-loop decreases-loop
-add_k c = omega (arith, copied_few (to_start (to_loop c.before.before.before.before)).pre.0)
+add_k c = omega (arith, agents_few (to_start (to_loop c.before.before.before.before)).pre.0)
 
 loop_less : tie.Need-loop-smaller invariant-loop decreases-loop
 loop_less c = search rules
@@ -77,7 +77,7 @@ loop_again c =
       omega arith,
       put_word.auto.0 ∙ l.inv.1,
       putting_more agent_word (plain_of (decode_draft a.draft.now)).agents 2 a.plain.now Skip l.k (2 + l.k) word.result l.plain put_word.new.0
-          (omega (arith, copied_many b.pre.0)) refl (omega arith) (word.ensures ∙ ap agent_word (made at-agent-word.before)) l.inv.2 put_word.ensures,
+          (omega (arith, agents_many b.pre.0)) refl (omega arith) (word.ensures ∙ ap agent_word (made at-agent-word.before)) l.inv.2 put_word.ensures,
     )
 
 same_length : tie.Need-same-length invariant-loop decreases-loop
@@ -88,7 +88,7 @@ returns c =
     let b = to_start c.before.before in
     let a = b.args in
     let l = c.before.before.loop in
-    putting_all agent_word (plain_of (decode_draft a.draft.now)).agents 2 a.plain.now l.k l.plain (omega (arith, copied_many b.pre.0)) l.invariant.2
+    putting_all agent_word (plain_of (decode_draft a.draft.now)).agents 2 a.plain.now l.k l.plain (omega (arith, agents_many b.pre.0)) l.invariant.2
 
 pub put_agents_spec : {M : Type 1} → statement M
 put_agents_spec =

@@ -1,31 +1,29 @@
--- `encoding::head_word`: the number of procedures stands above that of agents, and that above that of tokens.
-use Prim.Native.Nat.{◌-◌}
+-- `encoding::head_word`: the number of procedures stands above that of agents.
 use borrow.Author.Rules.{rules}
 use native.Mathlib.Omega.{arith}
-use Rattle.encoding.proofs.Shifts.{or_fields}
 use Rattle.encoding.proofs.head_word.Statement.{statement}
 use Rattle.encoding.proofs.head_word.Tie as tie
 
-sub_result : tie.Need-overflow-sub-result
-sub_result c = search rules
+sub_word_of : tie.Need-overflow-sub-word-of
+sub_word_of c = search rules
 
-cast_result : tie.Need-overflow-cast-result
-cast_result c = search rules
+sub_word_of_2 : tie.Need-overflow-sub-word-of-2
+sub_word_of_2 c = search rules
 
-sub_result_2 : tie.Need-overflow-sub-result-2
-sub_result_2 c = search rules
+sub_word_of_3 : tie.Need-overflow-sub-word-of-3
+sub_word_of_3 c = search rules
 
-cast_result_2 : tie.Need-overflow-cast-result-2
-cast_result_2 c = search rules
+mul_word_of : tie.Need-overflow-mul-word-of
+mul_word_of c = search rules
 
-sub_result_3 : tie.Need-overflow-sub-result-3
-sub_result_3 c = search rules
+add_word_of : tie.Need-overflow-add-word-of
+add_word_of c = search rules
 
-cast_result_3 : tie.Need-overflow-cast-result-3
-cast_result_3 c = search rules
+word_of_requires : tie.Need-word-of-requires
+word_of_requires c κs = omega arith
 
 returns : tie.Need-returns
-returns c = or_fields (c.args.tokens - 1) (c.args.agents - 1) (c.args.procedures - 1) 1 8 18 (omega arith) (omega arith) (omega arith) (omega arith)
+returns c = omega arith
 
 pub head_word_spec : {M : Type 1} → statement M
-head_word_spec = tie.close (tie.spec sub_result cast_result sub_result_2 cast_result_2 sub_result_3 cast_result_3 returns)
+head_word_spec = tie.close (tie.spec sub_word_of sub_word_of_2 sub_word_of_3 mul_word_of add_word_of word_of_requires returns)

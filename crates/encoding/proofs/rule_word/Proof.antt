@@ -1,28 +1,20 @@
--- `encoding::rule_word`: the second premise stands above the first, and that above the conclusion.
-use mathlib.Core.Path.{◌≡◌, ◌∙◌}
-use Prim.Native.Nat.{ℕ, ◌+◌, ◌*◌, ◌%◌, ◌^◌, ◌<◌}
+-- `encoding::rule_word`: the second premise stands above the first.
 use borrow.Author.Rules.{rules}
 use native.Mathlib.Omega.{arith}
-use lib.Bits.{bit_or}
-use Rattle.encoding.proofs.Shifts.{or_fields}
 use Rattle.encoding.proofs.rule_word.Statement.{statement}
 use Rattle.encoding.proofs.rule_word.Tie as tie
 
-premises_above : (conclusion first second : ℕ) → conclusion < 2 ^ 8 → first < 2 ^ 8 → second < 2 ^ 8 →
-    bit_or (bit_or (bit_or conclusion (first * 2 ^ 8 % 2 ^ 32)) (second * 2 ^ 16 % 2 ^ 32)) (2 * 2 ^ 28 % 2 ^ 32) ≡ 2 * 2 ^ 28 + conclusion + (first * 2 ^ 8 + second * 2 ^ 16)
-premises_above conclusion first second c f s = or_fields conclusion first second 2 8 16 c (omega arith) (omega arith) (omega arith) ∙ omega arith
+mul_word_of : tie.Need-overflow-mul-word-of
+mul_word_of c = search rules
 
-cast_result : tie.Need-overflow-cast-result
-cast_result c = search rules
+add_word_of : tie.Need-overflow-add-word-of
+add_word_of c = search rules
 
-cast_result_2 : tie.Need-overflow-cast-result-2
-cast_result_2 c = search rules
-
-cast_result_3 : tie.Need-overflow-cast-result-3
-cast_result_3 c = search rules
+word_of_requires : tie.Need-word-of-requires
+word_of_requires c κs = omega arith
 
 returns : tie.Need-returns
-returns c = premises_above c.args.conclusion c.args.first c.args.second (omega arith) (omega arith) (omega arith)
+returns c = omega arith
 
 pub rule_word_spec : {M : Type 1} → statement M
-rule_word_spec = tie.close (tie.spec cast_result cast_result_2 cast_result_3 returns)
+rule_word_spec = tie.close (tie.spec mul_word_of add_word_of word_of_requires returns)

@@ -10,7 +10,7 @@ use Rattle.tcc.specs.Instant.{output}
 use Rattle.tcc.proofs.Output.{output_from}
 use Rattle.format.specs.Decode.{sizes, decode}
 use Rattle.format.proofs.Decode.{decode_tokens}
-use Rattle.flags.specs.Members.{set_of}
+use Rattle.flags.specs.Flags.{set_of}
 use Rattle.bits.specs.Bits.{bytes_of}
 use Rattle.lent.specs.States.{agent_words}
 use Rattle.lent_maps.specs.Maps.{map_of}

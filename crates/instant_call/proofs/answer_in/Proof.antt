@@ -4,7 +4,7 @@ use borrow.Author.Rules.{rules}
 use lib.ListN.{length}
 use Rattle.tcc.specs.Instant.{answer}
 use Rattle.format.specs.Decode.{decode}
-use Rattle.flags.specs.Members.{set_of}
+use Rattle.flags.specs.Flags.{set_of}
 use Rattle.instant_engine.specs.Outcome.{outcome_of}
 use Rattle.instant_state.specs.Standing.{state_in}
 use Rattle.instant_state.proofs.Standings.{standing_state}

@@ -18,11 +18,10 @@ use Rattle.check_verdicts.specs.Verdicts.{verdict_number}
 use Rattle.check_score.specs.Check.{verdict}
 use Rattle.check_score.proofs.Stages.{by_head}
 use Rattle.check_score.proofs.Stages as stages
-use Rattle.flags.specs.Members.{set_of}
+use Rattle.flags.specs.Flags.{set_of}
 use Rattle.instant_engine.specs.Outcome.{outcome_of}
 use Rattle.bits.proofs.Filled.{none_from, from_none}
-use Rattle.lent.specs.States.{state_fault, state_of}
-use Rattle.lent.specs.Lawful.{LawfulState}
+use Rattle.lent.specs.States.{state_fault, state_of, LawfulState}
 use Rattle.lent.proofs.Round.{faultless_lawful}
 use Rattle.lent_maps.specs.Maps.{tokens_in}
 use Rattle.lent_maps.proofs.Tokens.{tokens_set}

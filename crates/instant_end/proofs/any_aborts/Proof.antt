@@ -9,7 +9,7 @@ use Rattle.laws.proofs.Sets.{some_any}
 use Rattle.tcc.specs.Score.{agent_at}
 use Rattle.tcc.specs.Instant.{is_abort}
 use Rattle.format.specs.Decode.{sizes, decode}
-use Rattle.flags.specs.Members.{set_of}
+use Rattle.flags.specs.Flags.{set_of}
 use Rattle.flags.proofs.Flags.{flag_member, member_flag}
 use Rattle.format.proofs.Known.{agents_all, agents_few}
 use Rattle.instant_end.proofs.Free.{Free, free_none, free_more, free_all}

@@ -5,12 +5,12 @@ use native.Mathlib.Omega.{arith}
 use lib.ListN.{length, get_or, length-replicate}
 use Rattle.laws.proofs.Booleans.{true_is_false}
 use Rattle.format.specs.Decode.{sizes, decode}
-use Rattle.flags.specs.Members.{set_of}
+use Rattle.flags.specs.Flags.{set_of}
 use Rattle.format.proofs.Known.{agents_all, agents_few}
-use Rattle.lent.specs.Lengths.{scratch_bytes, no_scratch}
-use Rattle.instant_end.specs.Reading.{Read}
-use Rattle.instant_end.proofs.Reading.{flags_none, read_none, read_free, read_awake}
-use Rattle.instant_end.proofs.Reduced.{no_bytes, none_reduced, Marked, marked_none, marked_more, marked_long, marked_unset, marked_reduced}
+use Rattle.lent.specs.Lengths.{scratch_bytes}
+use Rattle.instant_end.specs.Ended.{Read}
+use Rattle.instant_end.proofs.Reading.{read_none, read_free, read_awake}
+use Rattle.instant_end.proofs.Reduced.{Marked, marked_none, marked_more, marked_long, marked_unset, marked_reduced}
 use Rattle.instant_end.proofs.end_of.Statement.{statement}
 use Rattle.instant_end.proofs.end_of.Tie as tie
 
@@ -30,9 +30,6 @@ to_sizes c = c.before
 
 abbrev to_loop : tie.After-part-of invariant-loop decreases-loop → tie.At-loop invariant-loop decreases-loop
 to_loop c = c.before.before.before.before
-
-abbrev to_part : tie.After-count-and-clear invariant-loop decreases-loop → tie.After-part-of invariant-loop decreases-loop
-to_part c = c.before.before.before
 
 sizes_requires : tie.Need-sizes-requires invariant-loop decreases-loop
 sizes_requires c κs = c.before.before.requires.0.long
@@ -75,36 +72,18 @@ part_of_requires c κs =
     let b = to_start (to_sizes l) in
     (ap (λ n. n.agents) (head_is (to_sizes l)), (b.pre.0.playable, (omega arith, l.loop.invariant.1)))
 
-mul_count_and_clear : tie.Need-overflow-mul-count-and-clear invariant-loop decreases-loop
-mul_count_and_clear c = omega (arith, parts_few (to_loop c.before.before))
-
--- the words that are in the scratch are those of the agents read
-count_and_clear_requires : tie.Need-count-and-clear-requires invariant-loop decreases-loop
-count_and_clear_requires c κs =
-    let l = to_loop c.before.before in
-    let b = to_start (to_sizes l) in
-    (long l, (omega (arith, parts_few l), marked_unset (decode b.args.s.now) (set_of b.args.live.now) (set_of b.args.held.now) l.loop.k l.loop.scratch l.loop.inv.2))
-
--- at an abort the scratch is zero again
-cleared : (c : tie.After-count-and-clear invariant-loop decreases-loop) → c.count-and-clear.new.0 ≡ no_scratch
-cleared c = c.count-and-clear.ensures.cleared
-
-zeros : length no_scratch ≡ scratch_bytes
-zeros = length-replicate {A = ℕ} scratch_bytes 0
-
 same_length : tie.Need-same-length invariant-loop decreases-loop
-same_length c = ap length (cleared c.before.before ∙ sym (to_start (to_sizes (to_loop (to_part c.before.before)))).pre.1)
+same_length c = same (to_loop c.before)
 
 returns : tie.Need-returns invariant-loop decreases-loop
 returns c =
-    let at_clear = c.before.before in
+    let l = to_loop c.before in
     record {
-      aborted = sym ((to_part at_clear).part_of.ensures.aborts at_clear.before.before.if2.true);
-      reduced = none_reduced _ (cleared at_clear);
-      awake = flags_none 1024;
-      cleared = λ e. cleared at_clear;
-      long = ap length (cleared at_clear) ∙ zeros;
-      unset = λ i h. ap (λ s. get_or s i 0) (cleared at_clear) ∙ no_bytes i;
+      aborted = sym (c.before.part_of.ensures.aborts c.if2.true);
+      reduced = λ e. absurd (true_is_false refl e);
+      awake = λ e. absurd (true_is_false refl e);
+      long = long l;
+      unset = unset l;
     }
 
 put_word_requires : tie.Need-put-word-requires invariant-loop decreases-loop
@@ -141,9 +120,8 @@ returns_2 c =
     let all : length sc.agents ≤ 32 * l.loop.k = omega (arith, agents_all b.pre.0.playable (head_is (to_sizes l))) in
     record {
       aborted = read_free sc live held l.loop.invariant.1 all;
-      reduced = marked_reduced sc live held l.loop.k l.loop.scratch l.loop.invariant.2 all b.pre.0.playable.lawful.agents_at_most;
-      awake = read_awake sc live held l.loop.invariant.1 all;
-      cleared = λ e. absurd (true_is_false e refl);
+      reduced = λ e. marked_reduced sc live held l.loop.k l.loop.scratch l.loop.invariant.2 all b.pre.0.playable.lawful.agents_at_most;
+      awake = λ e. read_awake sc live held l.loop.invariant.1 all;
       long = long l;
       unset = unset l;
     }
@@ -158,8 +136,6 @@ end_of_spec =
     loop_holds
     mul_if1
     part_of_requires
-    mul_count_and_clear
-    count_and_clear_requires
     same_length
     returns
     put_word_requires

@@ -8,12 +8,12 @@ use native.Mathlib.Omega.{arith}
 use lib.ListN.{get_or}
 use Rattle.tcc.specs.Instant.{leaves}
 use Rattle.tcc.specs.declared.Agent.{Agent}
-use Rattle.flags.specs.Members.{set_of}
+use Rattle.flags.specs.Flags.{set_of}
 use Rattle.flags.proofs.Flags.{flag_has}
 use Rattle.format.proofs.Known.{agents_few, token_few, part_lower}
 use Rattle.instant_end.specs.declared.Fate.{Fate}
 use Rattle.instant_end.specs.declared.Fate.TheVariants.{Reduced, Stays}
-use Rattle.instant_end.specs.Reading.{flagged, fate_of}
+use Rattle.instant_end.specs.Ended.{fate_of, flagged}
 use Rattle.instant_end.proofs.Spent.{spent}
 use borrow.Author.Rules.{rules}
 use Rattle.instant_end.proofs.fate_of.Statement.{statement}

@@ -7,7 +7,7 @@ use lib.ListN.{length}
 use Rattle.laws.proofs.Booleans.{true_is_false}
 use Rattle.tcc.specs.Score.{agent_at}
 use Rattle.format.specs.Decode.{decode}
-use Rattle.flags.specs.Members.{set_of}
+use Rattle.flags.specs.Flags.{set_of}
 use Rattle.flags.proofs.Flags.{flag_member, member_flag}
 use Rattle.format.proofs.Known.{agents_all, agents_few}
 use Rattle.instant_end.specs.declared.Fate.TheVariants.{Aborts}

@@ -1,16 +1,17 @@
 -- `settle`: passes have added to the marks.
 use mathlib.Core.Path.{◌≡◌, sym, ap, subst⁻¹, ◌∙◌}
-use mathlib.Core.Bool.{cond}
+use mathlib.Core.Bool.{Bool, cond}
+use mathlib.Core.List.{List}
 use Prim.Native.Nat.{ℕ, ◌+◌, ◌-◌, ◌≤◌}
 use native.Mathlib.Omega.{arith}
 use lib.ListN.{length}
 use Rattle.tcc.specs.Store.{closure}
 use Rattle.tcc.specs.FixedPoint.{Marked, Sound}
 use Rattle.format.specs.Decode.{decode}
-use Rattle.flags.specs.Flags.{flags_of}
-use Rattle.flags.specs.Members.{set_of}
-use Rattle.flags.proofs.Flags.{member_within, set_length_le, set_more, flags_of_length, flagged_length}
-use Rattle.instant_engine.proofs.Closing.{Shut, closed_shut, closed_above}
+use Rattle.flags.specs.Flags.{set_of, flags_of}
+use Rattle.flags.proofs.Flags.{member_within, set_length_le, set_more, flags_of_length}
+use Rattle.instant_engine.specs.Marks.{Shut}
+use Rattle.instant_engine.proofs.Closing.{closed_shut, closed_above}
 use Rattle.instant_engine.proofs.Settling.{Settling, settling_none, settling_more, starts_sound, settled}
 use borrow.Author.Rules.{rules}
 use Rattle.instant_engine.proofs.settle.Statement.{statement}
@@ -29,6 +30,9 @@ to_start c = c.before.before.before.before
 abbrev to_loop : tie.After-pass invariant-loop decreases-loop → tie.At-loop invariant-loop decreases-loop
 to_loop c = c.before.before.before
 
+closed_long : (tokens : List ℕ) {store : List Bool} → store ≡ flags_of 256 tokens → length store ≡ 256
+closed_long tokens e = ap length e ∙ flags_of_length 256 tokens
+
 closed_requires : tie.Need-closed-requires invariant-loop decreases-loop
 closed_requires c κs = let b = c.before.before in (b.requires.0, search rules)
 
@@ -38,7 +42,7 @@ loop_holds c =
     let sc = decode b.args.s.now in
     let held = c.closed.new.1.1.0 in (
       b.requires.1,
-      flagged_length _ _ c.closed.ensures.0,
+      closed_long _ c.closed.ensures.0,
       settling_none sc (set_of b.args.live.now) (set_of held) (subst⁻¹ (λ l. Shut sc (set_of l)) c.closed.ensures.0 (closed_shut sc b.requires.0.playable.lawful (set_of b.args.inputs))),
     )
 
@@ -69,7 +73,7 @@ loop_less c =
     let h = at-pass.pass.ensures in
     let live = at-pass.pass.new.1.1.0 in
     let held = c.closed2.new.1.1.0 in
-    omega (arith, h.larger, ap {B = ℕ} (λ x. cond x 1 0) c.before.before.if1.true, no_fewer c, set_length_le live, h.long_live, set_length_le held, flagged_length _ _ c.closed2.ensures.0)
+    omega (arith, h.larger, ap {B = ℕ} (λ x. cond x 1 0) c.before.before.if1.true, no_fewer c, set_length_le live, h.long_live, set_length_le held, closed_long _ c.closed2.ensures.0)
 
 loop_again : tie.Need-loop-preserved invariant-loop decreases-loop
 loop_again c =
@@ -79,7 +83,7 @@ loop_again c =
     let l = at-loop.loop in
     let p = at-pass.pass in (
       p.ensures.long_live,
-      flagged_length _ _ c.closed2.ensures.0,
+      closed_long _ c.closed2.ensures.0,
       settling_more (decode b.args.s.now) (set_of b.args.live.now) (set_of at-loop.before.closed.last.1.1.0) l.live l.held p.new.1.1.0 p.new.1.1.1.0 p.result
           l.inv.2 p.ensures b.pre.0.playable.lawful c.closed2.new.1.1.0 c.closed2.ensures.0,
     )

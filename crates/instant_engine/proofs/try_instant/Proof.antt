@@ -6,7 +6,7 @@ use borrow.Author.Rules.{rules}
 use lib.ListN.{length, get_or}
 use Rattle.tcc.specs.Instant.{instant}
 use Rattle.format.specs.Decode.{decode}
-use Rattle.flags.specs.Members.{set_of}
+use Rattle.flags.specs.Flags.{set_of}
 use Rattle.instant_engine.specs.declared.Trial.{Trial}
 use Rattle.instant_engine.specs.Outcome.{trial_of}
 use Rattle.instant_engine.proofs.Outcomes.{aborted_trial, quiet_trial}

@@ -6,7 +6,7 @@ use native.Mathlib.Omega.{arith}
 use borrow.Author.Tests.{not-true, not-false}
 use Rattle.laws.proofs.Booleans.{true_is_false}
 use Rattle.format.specs.Decode.{sizes, decode}
-use Rattle.flags.specs.Members.{set_of}
+use Rattle.flags.specs.Flags.{set_of}
 use Rattle.flags.proofs.Flags.{member_flag}
 use Rattle.format.proofs.Known.{agents_all, agents_few, token_few, procedure_known}
 use Rattle.instant_marks.specs.Passed.{Served, Passed}

@@ -8,7 +8,7 @@ use lib.ListN.{length, replicate}
 use Rattle.tcc.specs.Score.{Score}
 use Rattle.tcc.specs.Instant.{running, aborted, aborted_answer, instant, answer}
 use Rattle.format.specs.Decode.{decode}
-use Rattle.flags.specs.Members.{set_of}
+use Rattle.flags.specs.Flags.{set_of}
 use Rattle.instant_engine.specs.declared.Outcome.{Outcome}
 use Rattle.instant_engine.specs.Outcome.{outcome_of}
 use Rattle.instant_engine.proofs.Outcomes.{flags_none}

@@ -8,7 +8,7 @@ use lib.ListN.{get_or}
 use Rattle.words.specs.Word.{field}
 use Rattle.format.specs.Decode.{decode}
 use Rattle.format.proofs.Decode.{decode_lowest, decode_highest}
-use Rattle.flags.specs.Members.{set_of}
+use Rattle.flags.specs.Flags.{set_of}
 use Rattle.instant_state.proofs.Ports.{ports_flags, no_flags}
 use Rattle.instant_state.proofs.sent.Statement.{statement}
 use Rattle.instant_state.proofs.sent.Tie as tie

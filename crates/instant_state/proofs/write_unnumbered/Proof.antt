@@ -7,13 +7,12 @@ use borrow.Author.Rules.{rules}
 use native.Mathlib.Omega.{arith}
 use lib.ListN.{get_or, drop, replicate}
 use Rattle.tcc.specs.Instant.{running, aborted}
-use Rattle.flags.specs.Members.{set_of}
+use Rattle.flags.specs.Flags.{set_of}
 use Rattle.flags.proofs.Flags.{flag_member, set_of_none}
 use Rattle.instant_engine.proofs.Outcomes.{flags_none}
 use Rattle.bits.specs.Bits.{bytes_of}
 use Rattle.lent.specs.Lengths.{unnumbered_bytes}
-use Rattle.lent.specs.States.{running_word, aborted_word, agent_words, as_bytes}
-use Rattle.lent.specs.Lawful.{LawfulState}
+use Rattle.lent.specs.States.{running_word, aborted_word, agent_words, as_bytes, LawfulState}
 use Rattle.instant_state.specs.declared.Standing.{Standing}
 use Rattle.instant_state.specs.Standing.{state_in}
 use Rattle.instant_state.proofs.Inside.{flags_known}

@@ -6,7 +6,7 @@ use native.Mathlib.Omega.{arith}
 use Rattle.tcc.proofs.Closure.{Follows}
 use Rattle.format.specs.Decode.{sizes, decode}
 use Rattle.format.proofs.Decode.{decode_tokens, sizes_few}
-use Rattle.flags.specs.Members.{set_of}
+use Rattle.flags.specs.Flags.{set_of}
 use Rattle.instant_store.specs.Passes.{Flooded}
 use Rattle.instant_store.proofs.Repeats.{conclusions_flagged}
 use Rattle.instant_store.proofs.Settles.{Drawn, drawn_repeated, follows_repeated, closed_calm, closed_clash}

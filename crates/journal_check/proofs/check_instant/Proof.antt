@@ -7,7 +7,7 @@ use lib.ListN.{length, get_or}
 use Rattle.words.specs.Word.{words}
 use Rattle.format.specs.Decode.{sizes}
 use Rattle.format.proofs.Decode.{sizes_few}
-use Rattle.flags.specs.Members.{set_of}
+use Rattle.flags.specs.Flags.{set_of}
 use Rattle.instant_state.specs.Standing.{state_in}
 use Rattle.journal_step.proofs.FromStanding.{told_set, status_few}
 use Rattle.journal_step.proofs.FromStanding as from

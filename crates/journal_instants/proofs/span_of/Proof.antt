@@ -7,7 +7,7 @@ use lib.ListN.{length}
 use Rattle.words.specs.Word.{words}
 use Rattle.words.proofs.Words.{words_length}
 use Rattle.journal_form.specs.Form.{is_instant}
-use Rattle.journal_instants.specs.Instants.{span}
+use Rattle.journal_instants.specs.Parts.{span}
 use Rattle.journal_instants.proofs.Parts.{span_from, span_first, span_more, span_here, span_end}
 use Rattle.journal_instants.proofs.span_of.Statement.{statement}
 use Rattle.journal_instants.proofs.span_of.Tie as tie

@@ -2,8 +2,7 @@
 use mathlib.Core.Path.{◌≡◌, sym, ap, ap₂, subst⁻¹, ◌∙◌}
 use lib.ListN.{length}
 use Rattle.format.specs.Decode.{sizes}
-use Rattle.lent.specs.States.{state_of}
-use Rattle.lent.specs.Lawful.{LawfulState}
+use Rattle.lent.specs.States.{state_of, LawfulState}
 use Rattle.lent.proofs.Round.{faultless_lawful}
 use Rattle.instant_state.specs.Standing.{state_in}
 use Rattle.instant_state.proofs.Standings.{standing_state}
@@ -45,7 +44,7 @@ ran : (c : tie.After-run-list) → let b = to_start (to_sizes (to_standing c)) i
     RanTo b.args.score.now b.args.state.now b.args.journal.now c.run-list.new.1.1.1.1.1.0 (run_from b.args.score.now b.args.state.now (length b.args.journal.now) (input_lists b.args.inputs.now)) c.run-list.result
 ran c =
     let at-standing = to_standing c in
-    c.run-list.ensures.0 (to_start (to_sizes at-standing)).args.state.now at-standing.standing-in.ensures c.before.before.before.number_in.ensures
+    c.run-list.ensures.0 (to_start (to_sizes at-standing)).args.state.now (sym (stands at-standing)) (sym c.before.before.before.number_in.ensures)
 
 number_in_requires : tie.Need-number-in-requires
 number_in_requires c κs = search rules

@@ -7,10 +7,10 @@ use native.Mathlib.Omega.{arith}
 use lib.ListN.{length, get_or}
 use Rattle.format.specs.Decode.{sizes}
 use Rattle.format.proofs.Decode.{decode_tokens}
-use Rattle.flags.specs.Members.{set_of}
+use Rattle.flags.specs.Flags.{set_of}
 use Rattle.instant_state.specs.Standing.{state_in}
 use Rattle.journal_step.proofs.FromStanding.{status_few, outputs_known}
-use Rattle.journal_run_list.specs.Advance.{goes_on}
+use Rattle.journal_run_list.specs.Run.{goes_on}
 use Rattle.journal_run_list.proofs.Took.{took, goes_not, not_goes, not_stopped}
 use Rattle.journal_run_list.proofs.advance.Statement.{statement}
 use Rattle.journal_run_list.proofs.advance.Tie as tie

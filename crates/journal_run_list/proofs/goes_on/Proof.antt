@@ -1,7 +1,7 @@
 -- `goes_on`: by the reason for the stop.
 use mathlib.Core.Path.{sym, ap}
 use borrow.Author.Rules.{rules}
-use Rattle.journal_run_list.specs.Advance.{goes_on}
+use Rattle.journal_run_list.specs.Run.{goes_on}
 use Rattle.journal_run_list.proofs.goes_on.Statement.{statement}
 use Rattle.journal_run_list.proofs.goes_on.Tie as tie
 

@@ -12,32 +12,30 @@ use Rattle.tcc.specs.Instant.{answer, after}
 use Rattle.words.specs.Word.{words}
 use Rattle.format.specs.Decode.{sizes, decode}
 use Rattle.format.proofs.Decode.{decode_tokens}
-use Rattle.flags.specs.Members.{set_of}
+use Rattle.flags.specs.Flags.{set_of}
 use Rattle.lent.specs.Lengths.{no_scratch}
-use Rattle.lent.specs.States.{state_of, as_bytes, instant_number, last_number}
-use Rattle.lent.proofs.SameState.{SameState}
-use Rattle.lent.specs.Lawful.{LawfulState}
+use Rattle.lent.specs.States.{state_of, as_bytes, instant_number, last_number, LawfulState, SameState}
 use Rattle.lent.proofs.Round.{state_round}
-use Rattle.instant_state.specs.Standing.{state_in, standing_in}
+use Rattle.instant_state.specs.Standing.{state_in}
 use Rattle.instant_state.proofs.Inside.{after_lawful}
 use Rattle.journal_instants.specs.Instants.{inputs_in, input_lists}
 use Rattle.journal_step.proofs.FromStanding.{inside}
 use Rattle.journal_step.proofs.FromStanding as from
-use Rattle.journal_step.proofs.Reading.{Reading, reading_none, beyond, beyond_length, Next, reading_next, reading_end}
-use Rattle.journal_run_list.specs.Run.{run_from}
-use Rattle.journal_run_list.specs.Advance.{goes_on, RanTo}
+use Rattle.journal_step.proofs.Reading.{Reading, reading_none, Next, reading_next, reading_end}
+use Rattle.journal_run_list.specs.Run.{goes_on, run_from}
+use Rattle.journal_run_list.specs.Advance.{RanTo}
 use Rattle.journal_run_list.proofs.Took.{goes_not, not_goes, took_fits}
 use Rattle.journal_run_list.proofs.Runs.{Half, room_is, put_back, half_none, half_more, half_stopped, half_ended}
 use Rattle.journal_run_list.proofs.run_list.Statement.{statement}
 use Rattle.journal_run_list.proofs.run_list.Tie as tie
 
 abbrev invariant-loop : tie.invariant-loop
-invariant-loop score prepared number inputs journal₀ scratch₀ stands₀ reached₀ instants₀ rest₀ filled₀ journal scratch stands reached instants rest filled =
-    Reading (sizes score).tokens rest × (LawfulState (sizes score).agents (state_in stands) × ((length journal ≡ length journal₀) × ((filled ≤ length journal) × (((instants + length rest ≤ length inputs) × (reached ≤ last_number))
-    × (((s : List ℕ) → stands₀ ≡ standing_in s → reached₀ ≡ instant_number s → Half score inputs s journal₀ journal stands reached instants rest filled) × (scratch ≡ no_scratch))))))
+invariant-loop score prepared number inputs journal₀ scratch₀ stands₀ reached₀ instants₀ at₀ filled₀ journal scratch stands reached instants at filled =
+    Reading (sizes score).tokens inputs at × (LawfulState (sizes score).agents (state_in stands) × ((length journal ≡ length journal₀) × ((filled ≤ length journal) × (((instants ≤ at) × (reached ≤ last_number))
+    × (((s : List ℕ) → state_of s ≡ state_in stands₀ → instant_number s ≡ reached₀ → Half score inputs s journal₀ journal stands reached instants at filled) × (scratch ≡ no_scratch))))))
 
 abbrev decreases-loop : tie.decreases-loop
-decreases-loop score prepared number inputs journal₀ scratch₀ stands₀ reached₀ instants₀ rest₀ filled₀ journal scratch stands reached instants rest filled = length rest
+decreases-loop score prepared number inputs journal₀ scratch₀ stands₀ reached₀ instants₀ at₀ filled₀ journal scratch stands reached instants at filled = length inputs - at
 
 -- Stations of the walk, each from a later place.
 abbrev to_start : tie.At-loop invariant-loop decreases-loop → tie.Start invariant-loop decreases-loop
@@ -60,8 +58,8 @@ loop_holds c =
     let st = b.args.standing in
     (reading_none false (sizes s).tokens b.args.inputs.now b.requires.1.1.0, (b.requires.1.0, (refl, (omega arith, ((omega arith, omega (arith, b.ranges.number)), (λ s₀ e m. half_none s b.args.inputs.now s₀ j st b.args.number e m, b.requires.1.1.1))))))
 
-first_part_requires : tie.Need-first-part-requires invariant-loop decreases-loop
-first_part_requires c κs = search rules
+part_requires : tie.Need-part-requires invariant-loop decreases-loop
+part_requires c κs = search rules
 
 tokens_in_requires : tie.Need-tokens-in-requires invariant-loop decreases-loop
 tokens_in_requires c κs = search rules
@@ -79,14 +77,14 @@ few : (c : tie.Start invariant-loop decreases-loop) → (sizes c.args.score.now)
 few c = omega (arith, decode_tokens c.args.score.now, c.requires.0.playable.lawful.tokens_at_most)
 
 -- the instant that is read
-next_at : (c : tie.After-tokens-in invariant-loop decreases-loop) → let b = to_start (to_loop c) in Next (sizes b.args.score.now).tokens (to_loop c).loop.rest.now c.before.first_part.result.now
+next_at : (c : tie.After-tokens-in invariant-loop decreases-loop) → let b = to_start (to_loop c) in Next (sizes b.args.score.now).tokens b.args.inputs.now (to_loop c).loop.at c.before.part.result.now
 next_at c =
     let at-loop = to_loop c in
     let b = to_start at-loop in
-    subst (Next (sizes b.args.score.now).tokens at-loop.loop.rest.now) (sym c.before.first_part.ensures)
-    (reading_next (sizes b.args.score.now).tokens at-loop.loop.rest.now at-loop.loop.inv.0 (omega arith))
+    subst (Next (sizes b.args.score.now).tokens b.args.inputs.now at-loop.loop.at) (sym c.before.part.ensures)
+    (reading_next (sizes b.args.score.now).tokens b.args.inputs.now at-loop.loop.at at-loop.loop.inv.0 (omega arith))
 
-told_is : (c : tie.After-tokens-in invariant-loop decreases-loop) → set_of c.tokens-in.result ≡ inputs_in (words c.before.first_part.result.now)
+told_is : (c : tie.After-tokens-in invariant-loop decreases-loop) → set_of c.tokens-in.result ≡ inputs_in (words c.before.part.result.now)
 told_is c =
     let b = to_start (to_loop c) in
     from.told_set (sizes b.args.score.now).tokens (few b) c.tokens-in.ensures (next_at c).told
@@ -102,11 +100,12 @@ advance_requires c κs =
     let b = to_start at-loop in
     (b.pre.0, (at-loop.loop.inv.1.0, (told_known c.before.before, at-loop.loop.inv.1.1.1.1.1.1)))
 
-lists_at : (c : tie.After-advance invariant-loop decreases-loop) → let rest = (to_loop (to_tokens c)).loop.rest.now in
-    input_lists rest ≡ set_of (to_tokens c).tokens-in.result ∷ input_lists (beyond rest (to_tokens c).before.first_part.result.now)
+lists_at : (c : tie.After-advance invariant-loop decreases-loop) → let at-loop = to_loop (to_tokens c) in let b = to_start at-loop in input_lists (drop at-loop.loop.at b.args.inputs.now)
+    ≡ set_of (to_tokens c).tokens-in.result ∷ input_lists (drop (at-loop.loop.at + length (to_tokens c).before.part.result.now) b.args.inputs.now)
 lists_at c =
     let at-tokens = to_tokens c in
-    (next_at at-tokens).lists ∙ ap (λ l. l ∷ input_lists (beyond (to_loop at-tokens).loop.rest.now at-tokens.before.first_part.result.now)) (sym (told_is at-tokens))
+    let at-loop = to_loop at-tokens in
+    (next_at at-tokens).lists ∙ ap (λ l. l ∷ input_lists (drop (at-loop.loop.at + length at-tokens.before.part.result.now) (to_start at-loop).args.inputs.now)) (sym (told_is at-tokens))
 
 room_long : (c : tie.After-advance invariant-loop decreases-loop) → let at-loop = to_loop (to_tokens c) in length (take (length at-loop.loop.journal - at-loop.loop.filled) (drop at-loop.loop.filled at-loop.loop.journal)) ≡ length (to_start at-loop).args.journal.now - at-loop.loop.filled
 room_long c =
@@ -147,33 +146,29 @@ add_instants c =
     let at-loop = to_loop at-tokens in
     omega (arith, (next_at at-tokens).some, (next_at at-tokens).fits, at-loop.loop.inv.1.1.1.1.0.0, (to_start at-loop).good.1.1.1.1.0.0)
 
-sub_rest : tie.Need-overflow-sub-rest invariant-loop decreases-loop
-sub_rest c = omega (arith, (next_at (to_tokens (to_advance c.before.before))).fits)
-
-part_rest_start : tie.Need-slice-bounds-rest-start invariant-loop decreases-loop
-part_rest_start c = omega (arith, (next_at (to_tokens (to_advance c.before.before))).fits)
-
-part_rest_end : tie.Need-slice-bounds-rest-end invariant-loop decreases-loop
-part_rest_end c = search rules
+add_at : tie.Need-overflow-add-at invariant-loop decreases-loop
+add_at c =
+    let at-tokens = to_tokens (to_advance c.before.before) in
+    omega (arith, (next_at at-tokens).fits, (to_start (to_loop at-tokens)).good.1.1.1.1.0.0)
 
 add_filled : tie.Need-overflow-add-filled invariant-loop decreases-loop
-add_filled c = omega (arith, fits_at c.before.before.before, (to_start (to_loop (to_tokens (to_advance c.before.before.before.before)))).good.1.1.1.1.1.0)
+add_filled c = omega (arith, fits_at c.before.before, (to_start (to_loop (to_tokens (to_advance c.before.before.before)))).good.1.1.1.1.1.0)
 
 loop_less : tie.Need-loop-smaller invariant-loop decreases-loop
 loop_less c =
-    let at-tokens = to_tokens (to_advance c.before.before.before.before) in
-    omega (arith, (next_at at-tokens).some, (next_at at-tokens).fits, beyond_length (to_loop at-tokens).loop.rest.now at-tokens.before.first_part.result.now)
+    let at-tokens = to_tokens (to_advance c.before.before.before) in
+    omega (arith, (next_at at-tokens).some, (next_at at-tokens).fits)
 
 loop_again : tie.Need-loop-preserved invariant-loop decreases-loop
 loop_again c =
-    let at-advance = to_advance c.before.before.before.before in
+    let at-advance = to_advance c.before.before.before in
     let at-tokens = to_tokens at-advance in
     let at-loop = to_loop at-tokens in
     let b = to_start at-loop in
     let l = at-loop.loop in
     let s = b.args.score.now in
     let t = at-advance.advance in
-    let goes : goes_on t.result.stop ≡ true = sym c.before.before.before.before.goes_on.ensures ∙ c.before.before.before.if1.true in
+    let goes : goes_on t.result.stop ≡ true = sym c.before.before.before.goes_on.ensures ∙ c.before.before.if1.true in
     let long : length (put_mid l.filled (length l.journal - l.filled) l.journal t.last.1.1.1.1.1.0) ≡ length l.journal = same_len_mid l.filled (length l.journal - l.filled) l.journal t.last.1.1.1.1.1.0 t.kept.1.1.1.1.1.0 in (
       (next_at at-tokens).follows,
       (
@@ -181,16 +176,16 @@ loop_again c =
         (
           long ∙ l.inv.1.1.0,
           (
-            omega (arith, fits_at c.before.before.before, long, l.inv.1.1.0),
+            omega (arith, fits_at c.before.before, long, l.inv.1.1.0),
             (
-              (omega (arith, (next_at at-tokens).some, (next_at at-tokens).fits, beyond_length l.rest.now at-tokens.before.first_part.result.now, l.inv.1.1.1.1.0.0), omega (arith, below_last c.before.before.before)),
+              (omega (arith, (next_at at-tokens).some, l.inv.1.1.1.1.0.0), omega (arith, below_last c.before.before)),
               (
                 λ s₀ e m.
-                    subst (λ j. Half s b.args.inputs.now s₀ b.args.journal.now j t.result.standing (l.reached + 1) (l.instants + 1) (beyond l.rest.now at-tokens.before.first_part.result.now) (l.filled + t.result.bytes))
+                    subst (λ j. Half s b.args.inputs.now s₀ b.args.journal.now j t.result.standing (l.reached + 1) (l.instants + 1) (l.at + length at-tokens.before.part.result.now) (l.filled + t.result.bytes))
                     (sym (put_back l.journal _ l.filled l.inv.1.1.1.0))
-                    (half_more s b.args.inputs.now s₀ b.args.journal.now l.journal l.stands l.reached l.instants l.rest.now l.filled (l.inv.1.1.1.1.1.0 s₀ e m)
-                    (set_of at-tokens.tokens-in.result) (beyond l.rest.now at-tokens.before.first_part.result.now) (lists_at at-advance) _ (room_long at-advance) _ t.result t.ensures.0
-                    (room_is l.journal l.filled) (goes_not _ goes) (after_round at-advance) (below_last c.before.before.before)),
+                    (half_more s b.args.inputs.now s₀ b.args.journal.now l.journal l.stands l.reached l.instants l.at l.filled (l.inv.1.1.1.1.1.0 s₀ e m)
+                    (set_of at-tokens.tokens-in.result) (drop (l.at + length at-tokens.before.part.result.now) b.args.inputs.now) (lists_at at-advance) _ (room_long at-advance) _ t.result t.ensures.0
+                    (room_is l.journal l.filled) (goes_not _ goes) (l.at + length at-tokens.before.part.result.now) refl (after_round at-advance) (below_last c.before.before)),
                 t.ensures.1,
               ),
             ),
@@ -218,8 +213,8 @@ returns c =
     let t = at-advance.advance in (
       λ s₀ e m. subst (λ j. RanTo s s₀ b.args.journal.now j (run_from s s₀ (length b.args.journal.now) (input_lists b.args.inputs.now)) (record { stop = t.result.stop; instants = l.instants; standing = l.stands; number = l.reached }))
           (sym (put_back l.journal _ l.filled l.inv.1.1.1.0))
-          (half_stopped s b.args.inputs.now s₀ b.args.journal.now l.journal l.stands l.reached l.instants l.rest.now l.filled (l.inv.1.1.1.1.1.0 s₀ e m)
-          (set_of at-tokens.tokens-in.result) (beyond l.rest.now at-tokens.before.first_part.result.now) (lists_at at-advance) _ (room_long at-advance) _ t.result t.ensures.0
+          (half_stopped s b.args.inputs.now s₀ b.args.journal.now l.journal l.stands l.reached l.instants l.at l.filled (l.inv.1.1.1.1.1.0 s₀ e m)
+          (set_of at-tokens.tokens-in.result) (drop (l.at + length at-tokens.before.part.result.now) b.args.inputs.now) (lists_at at-advance) _ (room_long at-advance) _ t.result t.ensures.0
           (room_is l.journal l.filled) (not_goes (sym c.before.goes_on.ensures ∙ c.if1.false)) _ refl refl refl refl l.inv.1.0),
       t.ensures.1,
     )
@@ -234,8 +229,8 @@ returns_2 : tie.Need-returns-2 invariant-loop decreases-loop
 returns_2 c =
     let b = to_start c.before in
     let l = c.before.loop in (
-      λ s₀ e m. half_ended b.args.score.now b.args.inputs.now s₀ b.args.journal.now l.journal l.stands l.reached l.instants l.rest.now l.filled (l.invariant.1.1.1.1.1.0 s₀ e m)
-          _ refl refl refl refl l.invariant.1.0 (reading_end l.rest.now (omega arith)),
+      λ s₀ e m. half_ended b.args.score.now b.args.inputs.now s₀ b.args.journal.now l.journal l.stands l.reached l.instants l.at l.filled (l.invariant.1.1.1.1.1.0 s₀ e m)
+          _ refl refl refl refl l.invariant.1.0 (reading_end (sizes b.args.score.now).tokens b.args.inputs.now l.at (omega arith)),
       l.invariant.1.1.1.1.1.1,
     )
 
@@ -246,7 +241,7 @@ run_list_spec =
     invariant-loop
     decreases-loop
     loop_holds
-    first_part_requires
+    part_requires
     tokens_in_requires
     sub_advance
     part_advance_start
@@ -255,9 +250,7 @@ run_list_spec =
     goes_on_requires
     add_reached
     add_instants
-    sub_rest
-    part_rest_start
-    part_rest_end
+    add_at
     add_filled
     loop_less
     loop_again

@@ -5,7 +5,7 @@ use lib.Dec.{leb}
 use lib.ListN.{length}
 use Rattle.laws.specs.Sets.{any}
 use Rattle.check_score.proofs.Stages.{by_head}
-use Rattle.flags.specs.Members.{set_of}
+use Rattle.flags.specs.Flags.{set_of}
 use Rattle.instant_state.specs.Standing.{state_in}
 use Rattle.journal_step.proofs.FromStanding.{stepped}
 use Rattle.journal_step.proofs.step_from.Statement.{statement}

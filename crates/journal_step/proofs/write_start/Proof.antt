@@ -2,8 +2,7 @@
 use mathlib.Core.Path.{◌≡◌, ap, subst⁻¹, ◌∙◌}
 use borrow.Author.Rules.{rules}
 use Rattle.format.specs.Decode.{sizes}
-use Rattle.lent.specs.States.{numbered}
-use Rattle.lent.specs.Lawful.{LawfulState}
+use Rattle.lent.specs.States.{numbered, LawfulState}
 use Rattle.instant_state.specs.Standing.{state_in}
 use Rattle.journal_step.proofs.Starts.{start_lawful, start_bytes_lem}
 use Rattle.journal_step.proofs.write_start.Statement.{statement}

@@ -1,7 +1,7 @@
 -- `journal_words::size`: one word, and one for each token.
 use borrow.Author.Rules.{rules}
 use native.Mathlib.Omega.{arith}
-use Rattle.flags.specs.Members.{set_of}
+use Rattle.flags.specs.Flags.{set_of}
 use Rattle.journal_words.proofs.Put.{instant_length}
 use Rattle.journal_words.proofs.size.Statement.{statement}
 use Rattle.journal_words.proofs.size.Tie as tie

@@ -1,7 +1,7 @@
 -- `journal_words::write`: the instant's word, the words of its inputs and those of its outputs, one after the other.
 use borrow.Author.Rules.{rules}
 use native.Mathlib.Omega.{arith}
-use Rattle.flags.specs.Members.{set_of}
+use Rattle.flags.specs.Flags.{set_of}
 use Rattle.journal_words.proofs.Put.{instant_length, instant_put}
 use Rattle.journal_words.proofs.write.Statement.{statement}
 use Rattle.journal_words.proofs.write.Tie as tie

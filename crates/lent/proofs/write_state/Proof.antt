@@ -5,7 +5,7 @@ use Prim.Native.Nat.{suc}
 use borrow.Author.Rules.{rules}
 use native.Mathlib.Omega.{arith}
 use lib.ListN.{drop}
-use Rattle.flags.specs.Members.{set_of}
+use Rattle.flags.specs.Flags.{set_of}
 use Rattle.lent.specs.Lengths.{unnumbered_bytes}
 use Rattle.lent.specs.States.{agent_words}
 use Rattle.lent.proofs.Round.{agent_words_length}

@@ -7,14 +7,9 @@ use Rattle.check_score.proofs.Values.{verdict_small}
 use Rattle.score_answer.specs.Answer.{packed}
 use Rattle.score_answer.specs.Replies.{of_verdict}
 use Rattle.score_answer.proofs.Replies.{reply_fits}
-use Rattle.score.specs.Slice.{Slice}
-use native.Mathlib.Omega.{arith}
 use borrow.Author.Rules.{rules}
 use Rattle.score.proofs.score_check.Statement.{statement}
 use Rattle.score.proofs.score_check.Tie as tie
-
-slice : (c : tie.After-shared-slice-known) → Slice c.before.args.score.now
-slice c = record { few = omega (arith, c.before.well-formed.0.1); small = λ i. omega (arith, c.shared-slice-known.given i) }
 
 check_requires : tie.Need-check-requires
 check_requires c κs = search rules
@@ -25,7 +20,7 @@ of_verdict_requires c κs =
     rw c.check.ensures (reply_fits (verdict_number (verdict s)) (verdict_value (verdict s)) (number_few (verdict s)) (verdict_small s))
 
 returns : tie.Need-returns
-returns c = record { lent = slice c.before.before; answered = c.of-verdict.ensures ∙ ap (λ v. packed (of_verdict v)) c.before.check.ensures }
+returns c = record { answered = c.of-verdict.ensures ∙ ap (λ v. packed (of_verdict v)) c.before.check.ensures }
 
 pub score_check_spec : {M : Type 1} → statement M
 score_check_spec = tie.close (tie.spec check_requires of_verdict_requires returns)

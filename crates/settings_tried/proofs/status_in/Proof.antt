@@ -3,7 +3,7 @@ use mathlib.Core.Path.{sym, ap, ◌∙◌}
 use borrow.Author.Rules.{rules}
 use Rattle.tcc.specs.Instant.{answer}
 use Rattle.format.specs.Decode.{decode}
-use Rattle.flags.specs.Members.{set_of}
+use Rattle.flags.specs.Flags.{set_of}
 use Rattle.instant_engine.specs.Outcome.{trial_of}
 use Rattle.settings_tried.specs.Standing.{state_from}
 use Rattle.settings_tried.proofs.status_in.Statement.{statement}

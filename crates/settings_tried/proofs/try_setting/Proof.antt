@@ -10,7 +10,7 @@ use lib.ListN.{length}
 use Rattle.tcc.specs.Score.{Score}
 use Rattle.tcc.specs.Instant.{State, answer}
 use Rattle.format.specs.Decode.{decode}
-use Rattle.flags.specs.Members.{set_of}
+use Rattle.flags.specs.Flags.{set_of}
 use Rattle.settings_tried.specs.Settings.{counts}
 use Rattle.settings_tried.specs.Standing.{state_from}
 use Rattle.settings_tried.proofs.Counting.{three}
