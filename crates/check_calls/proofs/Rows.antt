@@ -84,7 +84,7 @@ pub record Upto (n k : ℕ) (before now : List (List Bool)) : Type 0 where
   pub through : (p j q : ℕ) → p < n → j < k → q < 64 → called now p j ≡ true → called now j q ≡ true → called now p q ≡ true
   pub rest : (p : ℕ) → n ≤ p → get_or now p [] ≡ get_or before p []
 
-linked_on : {n p k q : ℕ} {m : List (List Bool)} → Linked n m p k → k < n → Linked n m k q → Linked n m p q
+linked_on : {n : ℕ} {m : List (List Bool)} {p k q : ℕ} → Linked n m p k → k < n → Linked n m k q → Linked n m p q
 linked_on (one e) lt next = more lt e next
 linked_on (more l e rest) lt next = more l e (linked_on rest lt next)
 

@@ -48,7 +48,7 @@ digits {row} p = record { long = p.1.0.1; small = λ k. (elem_Fits w64 w64 row p
 value_append : (v : ℕ) (l k : List ℕ) → value_from v (l ++ k) ≡ value_from (value_from v l) k
 unfolding value_from
 value_append v [] k = refl
-value_append v (w ∷ l) k = value_append _ l k
+value_append v (w ∷ l) k = value_append (v * 2 ^ 64 + w) l k
 
 place_more : (n : ℕ) → 2 ^ (64 * suc n) ≡ 2 ^ 64 * 2 ^ (64 * n)
 place_more n = let e : 64 * suc n ≡ 64 + 64 * n = omega arith in ap (λ k. 2 ^ k) e ∙ pow-add 2 64 (64 * n)

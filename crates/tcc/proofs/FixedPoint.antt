@@ -151,9 +151,9 @@ module _ (sc : Score) where
       (λ c k. (j, Memᴰ.head refl, k))
       (λ c k. let x = awake_member store lives k in (x.0, Memᴰ.tail x.1, x.2)) b m
 
-  pub member_awake : (store : List ℕ) {lives : List ℕ} {i b : ℕ} → Memᴰ i lives → Memᴰ b (leaves store (agent_at sc i)) → Memᴰ b (left_awake sc store lives)
-  member_awake store {lives} {i} {b} (Memᴰ.head {x = j} {xs = more} e) k = Memᴰ.append_left _ (subst (λ n. Memᴰ b (leaves store (agent_at sc n))) e k)
-  member_awake store {lives} {i} {b} (Memᴰ.tail {x = j} {xs = more} m) k = Memᴰ.append_right (leaves store (agent_at sc j)) (member_awake store m k)
+  pub member_awake : (store : List ℕ) {i b : ℕ} {lives : List ℕ} → Memᴰ i lives → Memᴰ b (leaves store (agent_at sc i)) → Memᴰ b (left_awake sc store lives)
+  member_awake store {i} {b} (Memᴰ.head {x = j} {xs = more} e) k = Memᴰ.append_left _ (subst (λ n. Memᴰ b (leaves store (agent_at sc n))) e k)
+  member_awake store {i} {b} (Memᴰ.tail {x = j} {xs = more} m) k = Memᴰ.append_right (leaves store (agent_at sc j)) (member_awake store m k)
 
 module _ {store store' : List ℕ} (same : Same store store') where
   leaves_same : (a : Agent) → leaves store a ≡ leaves store' a
