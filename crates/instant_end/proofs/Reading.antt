@@ -37,6 +37,7 @@ flagged_kept [] flags m = m
 flagged_kept (b ∷ l) flags m = flagged_kept l (set flags b true) (set_kept flags b m)
 
 flagged_here : (l : List ℕ) (flags : List Bool) → Within (λ b. b < length flags) l → {x : ℕ} → Memᴰ x l → Memᴰ x (set_of (flagged l flags))
+flagged_here [] flags few {x = x} m = elim m [ ]
 flagged_here (b ∷ l) flags few {x} m = ⊎_elim
     (λ (e : x ≡ b). subst⁻¹ (λ n. Memᴰ n (set_of (flagged (b ∷ l) flags))) e (flagged_kept l (set flags b true) (set_here flags b (few b (Memᴰ.head refl)))))
     (λ (k : Memᴰ x l). flagged_here l (set flags b true) (λ y n. omega (arith, few y (Memᴰ.tail n), length-set flags b true)) k)
