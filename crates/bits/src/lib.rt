@@ -1,4 +1,6 @@
 // Bits as flags: spread from a word, gathered to one, looked at from a number on; a word put into bytes.
+#![tactic(auto)]
+
 ghost use Rattle.std.specs.Prelude.{◌≡◌, false, not, [], ◌∷◌, ◌++◌, ℕ, ◌+◌, ◌*◌, ◌-◌, ◌/◌, ◌^◌, ◌≤◌, length, replicate, get_or, take, drop, eqb, leb};
 ghost use Rattle.laws.specs.Sets.{any};
 ghost use Rattle.flags.specs.Flags.{set_of};

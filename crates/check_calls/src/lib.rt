@@ -1,4 +1,6 @@
 // Tables of unguarded calls: a set of procedures for each agent, and a row of flags for each procedure.
+#![tactic(auto)]
+
 ghost use Rattle.std.specs.Prelude.{◌≡◌, false, ◌||◌, ℕ, ◌<◌, ◌≤◌, length, get_or};
 ghost use mathlib.Core.List.{Memᴰ};
 ghost use Rattle.tcc.specs.Limits.{most_procedures};

@@ -1,4 +1,6 @@
 // Row 7: the lowest procedure on a circle of unguarded calls.
+#![tactic(auto)]
+
 ghost use Rattle.std.specs.Prelude.{◌≡◌, ◌≤◌, length};
 ghost use Rattle.format.specs.Decode.{sizes, decode};
 ghost use Rattle.check_faults.specs.Faultless.{Faultless};

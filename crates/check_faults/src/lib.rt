@@ -1,4 +1,6 @@
 // Rows 1 to 6 of the score check, over all bytes.
+#![tactic(auto)]
+
 ghost use Rattle.std.specs.Prelude.{◌≡◌, ◌≤◌, drop};
 ghost use Rattle.tcc.specs.Limits.{most_agents, most_procedures};
 ghost use Rattle.words.specs.Word.{words};

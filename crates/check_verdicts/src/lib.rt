@@ -1,9 +1,11 @@
 // What the score check finds: verdicts, their numbers and values, the first of two.
+#![tactic(auto)]
+
 ghost use Rattle.std.specs.Prelude.{◌≡◌};
 ghost use Rattle.check_verdicts.specs.Verdicts.{verdict_number, verdict_value};
 
 // What the score check finds.
-#[derive(Drop)]
+#[derive(Clone, Copy)]
 pub enum Verdict {
     Accepted,
     // The bytes are none, no multiple of 4, or too many.

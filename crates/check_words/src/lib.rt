@@ -1,4 +1,6 @@
 // Rows 4 to 6 of the score check at one word.
+#![tactic(auto)]
+
 ghost use Rattle.std.specs.Prelude.{◌≡◌, ◌+◌, ◌<◌};
 ghost use Rattle.tcc.specs.Limits.{most_agents};
 ghost use Rattle.tcc.specs.declared.Agent.TheVariants.{When};

@@ -13,7 +13,7 @@ use draft_pairs::Row;
 use tcc::Agent;
 
 // What an agent refers to.
-#[derive(Drop)]
+#[derive(Clone, Copy)]
 pub enum References {
     Nothing,
     Body(usize),

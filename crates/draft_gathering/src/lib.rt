@@ -11,7 +11,7 @@ use draft_table::Table;
 use format::Sizes;
 
 // How many there are: the draft's tokens, agents, procedures and words; its pairs, of them copied agents; its asked sets.
-#[derive(Drop)]
+#[derive(Clone, Copy)]
 pub struct Counts {
     pub tokens: usize,
     pub agents: usize,
@@ -23,7 +23,7 @@ pub struct Counts {
 }
 
 // What is gathered of a draft.
-#[derive(Drop)]
+#[derive(Clone, Copy)]
 pub enum Gathering {
     // The plain score would pass a size limit.
     Large,

@@ -2,7 +2,7 @@
 use check_verdicts::Verdict;
 
 // What a translation comes to.
-#[derive(Drop)]
+#[derive(Clone, Copy)]
 pub enum Reply {
     // The draft is turned down.
     Draft(Verdict),

@@ -1,4 +1,6 @@
 // A table of pairs in rising order.
+#![tactic(auto)]
+
 ghost use Rattle.std.specs.Prelude.{◌≡◌, ◌+◌, ◌<◌, ◌≤◌, length};
 ghost use Rattle.laws.specs.Rising.{Rising};
 ghost use Rattle.draft_pairs.specs.Pairs.{most_pairs};

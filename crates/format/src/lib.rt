@@ -1,4 +1,6 @@
 // The words of a score: fields, agents and rules read from them.
+#![tactic(auto)]
+
 ghost use Rattle.std.specs.Prelude.{◌≡◌, ◌+◌, ◌<◌, length};
 ghost use Rattle.tcc.specs.Score.{agent_at, root_of};
 ghost use Rattle.words.specs.Word.{words, field};
@@ -11,7 +13,7 @@ use tcc::Agent;
 pub const MOST_BYTES: usize = 4 * (2 + tcc::MOST_AGENTS + tcc::MOST_PROCEDURES + tcc::MOST_RULES);
 
 // How many tokens, agents and procedures a score has.
-#[derive(Drop)]
+#[derive(Clone, Copy)]
 pub struct Sizes {
     pub tokens: usize,
     pub agents: usize,
@@ -19,7 +21,7 @@ pub struct Sizes {
 }
 
 // An agent word taken apart.
-#[derive(Drop)]
+#[derive(Clone, Copy)]
 pub enum Decoded {
     Whole(Agent),
     Malformed,

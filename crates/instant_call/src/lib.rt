@@ -15,7 +15,7 @@ use instant_engine::Outcome;
 use instant_prepared::Prepared;
 
 // What an instant call answers.
-#[derive(Drop)]
+#[derive(Clone, Copy)]
 pub enum Reply {
     // The score is turned down, 1 to 7.
     Score(Verdict),

@@ -1,4 +1,6 @@
 // The bits of the agents reduced, in the scratch: counted and cleared.
+#![tactic(auto)]
+
 ghost use Rattle.std.specs.Prelude.{◌≡◌, ℕ, ◌≤◌, length, get_or};
 ghost use Rattle.lent.specs.Lengths.{scratch_bytes};
 ghost use Rattle.instant_count.specs.Tallied.{Tallied};

@@ -1,4 +1,6 @@
 // What an instant comes to, read off its marks: whether it aborts, the agents reduced, in the scratch, and those awake next.
+#![tactic(auto)]
+
 ghost use Rattle.std.specs.Prelude.{◌≡◌, ◌*◌, ◌<◌, length};
 ghost use Rattle.laws.specs.Sets.{any};
 ghost use Rattle.tcc.specs.Score.{agent_at};
@@ -22,14 +24,14 @@ pub struct Ending {
 }
 
 // What 32 agents come to: whether one aborts; if not, a bit for each that is reduced.
-#[derive(Drop)]
+#[derive(Clone, Copy)]
 struct Part {
     aborted: bool,
     reduced: u32,
 }
 
 // What a live agent comes to.
-#[derive(Drop)]
+#[derive(Clone, Copy)]
 enum Fate {
     Aborts,
     Reduced,

@@ -1,4 +1,6 @@
 // One pass of an instant over its agents, in which each live one has its effect on the marks.
+#![tactic(auto)]
+
 ghost use Rattle.std.specs.Prelude.{◌≡◌, length};
 ghost use Rattle.format.specs.Decode.{decode};
 ghost use Rattle.instant_prepared.specs.Prepared.{PreparedFrom};

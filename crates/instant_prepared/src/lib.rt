@@ -1,4 +1,6 @@
 // What a call works out of an accepted score, once, and hands to each of its instants.
+#![tactic(auto)]
+
 ghost use Rattle.std.specs.Prelude.{◌≡◌, length};
 ghost use Rattle.format.specs.Playable.{Playable};
 ghost use Rattle.instant_prepared.specs.Prepared.{prepared_length, sizes_in, PreparedFrom};

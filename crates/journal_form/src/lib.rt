@@ -1,10 +1,12 @@
 // The form of input lists and journals, numbers 12 and 13.
+#![tactic(auto)]
+
 ghost use Rattle.std.specs.Prelude.{◌≡◌, cond, ◌&&◌, ltb};
 ghost use Rattle.format.specs.Format.{is_word};
 ghost use Rattle.journal_form.specs.Form.{token_of, status_in, is_instant, rises, may_follow, form_of};
 
 // The form of a list or journal.
-#[derive(Drop)]
+#[derive(Clone, Copy)]
 pub enum Form {
     Good,
     // Not a multiple of 4 bytes.

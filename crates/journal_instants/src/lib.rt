@@ -1,4 +1,6 @@
 // The instants in an input list or journal, as parts of its own bytes, and their tokens.
+#![tactic(auto)]
+
 ghost use Rattle.std.specs.Prelude.{◌≡◌, ◌*◌};
 ghost use Rattle.words.specs.Word.{words};
 ghost use Rattle.flags.specs.Flags.{flags_of};

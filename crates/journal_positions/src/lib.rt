@@ -1,5 +1,7 @@
 // Where the instants of a journal stand in its bytes: where a reader starts, what it shows at a position, the position so many
 // instants further on.
+#![tactic(auto)]
+
 ghost use Rattle.std.specs.Prelude.{◌≡◌, true, take, drop};
 ghost use Rattle.journal_form.specs.Form.{form_of};
 ghost use Rattle.journal_positions.specs.Positions.{start_by, size_at, place_after};

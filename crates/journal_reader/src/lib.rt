@@ -1,5 +1,7 @@
 // A reader of journals. Who sees an empty part asks for the journal's form, by `form` of a reader, and beside `instant`
 // `journal_positions::form_of` tells: `Good` is past the last instant, `Bytes` turned down by 12, `Word(k)` turned down by 13 at word k.
+#![tactic(auto)]
+
 ghost use Rattle.std.specs.Prelude.{◌≡◌, take, drop};
 ghost use Rattle.journal_positions.specs.Positions.{size_at, place_of};
 ghost use Rattle.journal_reader.specs.Reading.{made, moved_by};
@@ -7,7 +9,7 @@ ghost use Rattle.journal_reader.specs.Reading.{made, moved_by};
 use journal_form::Form;
 
 // A journal, the position of the instant that is shown next, and the journal's form.
-#[derive(Drop)]
+#[derive(Clone, Copy)]
 pub struct Reader<'a> {
     journal: &'a [u8],
     at: usize,

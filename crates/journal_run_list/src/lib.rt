@@ -20,7 +20,7 @@ use instant_state::Standing;
 use journal_form::Form;
 
 // Why an instant of a run is not written.
-#[derive(Drop)]
+#[derive(Clone, Copy)]
 pub enum Stop {
     Not,
     // The next state would not be one of the score's.

@@ -16,7 +16,7 @@ use instant_prepared::Prepared;
 use instant_state::Standing;
 
 // What a run or a journal check answers.
-#[derive(Drop)]
+#[derive(Clone, Copy)]
 pub enum Reply {
     // The score is turned down, 1 to 7.
     Score(Verdict),

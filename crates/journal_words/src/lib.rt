@@ -1,4 +1,6 @@
 // The words of an instant in a journal, counted and written.
+#![tactic(auto)]
+
 ghost use Rattle.std.specs.Prelude.{◌≡◌, false, map, ◌++◌, ℕ, ◌+◌, ◌*◌, ◌^◌, ◌≤◌, ◌<◌, length, get_or, take, drop};
 ghost use Rattle.tcc.specs.Limits.{most_tokens};
 ghost use Rattle.flags.specs.Flags.{set_of};

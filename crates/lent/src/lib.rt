@@ -1,4 +1,6 @@
 // What the caller lends: its lengths; states as bytes, read to flags and written from them, and their numbers.
+#![tactic(auto)]
+
 ghost use Rattle.std.specs.Prelude.{◌≡◌, false, [], ◌∷◌, ◌++◌, ℕ, ◌≤◌, length, get_or, take, drop, leb};
 ghost use Rattle.laws.specs.Sets.{any};
 ghost use Rattle.flags.specs.Flags.{set_of, flags_of};

@@ -1,4 +1,6 @@
 // Token maps as bytes, read to flags and written from them.
+#![tactic(auto)]
+
 ghost use Rattle.std.specs.Prelude.{◌≡◌, false, ℕ, ◌≤◌, length, get_or};
 ghost use Rattle.flags.specs.Flags.{set_of, flags_of};
 ghost use Rattle.lent.specs.Lengths.{map_bytes};

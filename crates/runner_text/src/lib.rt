@@ -1,4 +1,6 @@
 // What the runner prints, as text: which words of a journal, and the line of a word.
+#![tactic(auto)]
+
 ghost use Rattle.std.specs.Prelude.{◌≡◌, ◌<◌, length};
 ghost use Rattle.words.specs.Word.{words};
 ghost use Rattle.runner_text.specs.Shown.{shown};

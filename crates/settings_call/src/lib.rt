@@ -5,7 +5,7 @@ use check_verdicts::Verdict;
 use settings_tried::Counts;
 
 // What a call that counts settings answers.
-#[derive(Drop)]
+#[derive(Clone, Copy)]
 pub enum Reply {
     // The score is turned down, 1 to 7.
     Score(Verdict),

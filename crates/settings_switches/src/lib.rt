@@ -1,4 +1,6 @@
 // A list of switches, number 17.
+#![tactic(auto)]
+
 ghost use Rattle.std.specs.Prelude.{◌≡◌};
 ghost use Rattle.laws.specs.Sets.{has};
 ghost use Rattle.settings_switches.specs.Switches.{switch_fault};

@@ -12,7 +12,7 @@ use flags::{Agents, Tokens};
 use instant_prepared::Prepared;
 
 // How many settings end with each status: 0, 1 and 2.
-#[derive(Drop)]
+#[derive(Clone, Copy)]
 pub struct Counts {
     pub quiet: usize,
     pub clashed: usize,

@@ -1,4 +1,5 @@
 // The language of scores: size limits and agents; all else of it is in `specs/`.
+#![tactic(auto)]
 
 // The most tokens, agents, procedures and rules that a score may have.
 pub const MOST_TOKENS: usize = 256;
@@ -10,7 +11,7 @@ pub const MOST_PROCEDURES: usize = 64;
 pub const MOST_RULES: usize = 256;
 
 // The agents of a score. Agents, tokens and procedures go by number.
-#[derive(Drop)]
+#[derive(Clone, Copy)]
 pub enum Agent {
     Skip,
     Abort,

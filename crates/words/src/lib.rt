@@ -1,4 +1,6 @@
 // 32-bit little-endian words in a byte slice, fields of a word by shift and mask, token maps.
+#![tactic(auto)]
+
 ghost use Rattle.std.specs.Prelude.{◌≡◌, ◌+◌, ◌*◌, ◌/◌, ◌<◌, length};
 ghost use Rattle.words.specs.Word.{joined, words, word_at, field};
 

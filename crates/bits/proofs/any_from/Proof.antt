@@ -14,51 +14,51 @@ use Rattle.flags.specs.Flags.{set_of}
 use Rattle.bits.proofs.any_from.Statement.{statement}
 use Rattle.bits.proofs.any_from.Tie as tie
 
-abbrev invariant-loop : tie.invariant-loop
-invariant-loop flags from found₀ i₀ found i = (from ≤ i) × (found ≡ any (λ n. leb from n && get_or flags n false) (below i))
+abbrev invariant-loop-i : tie.invariant-loop-i
+invariant-loop-i flags from found₀ i₀ found i = (from ≤ i) × (found ≡ any (λ n. leb from n && get_or flags n false) (below i))
 
-abbrev decreases-loop : tie.decreases-loop
-decreases-loop flags from found₀ i₀ found i = length flags - i
+abbrev decreases-loop-i : tie.decreases-loop-i
+decreases-loop-i flags from found₀ i₀ found i = length flags - i
 
-loop_holds : tie.Need-loop-init invariant-loop decreases-loop
+loop_holds : tie.Need-loop-i-init invariant-loop-i decreases-loop-i
 loop_holds c = let a = c.args in (
   search rules,
   sym (any_none (λ n. leb a.from n && get_or a.flags.now n false) a.from (λ j h. ap (λ b. b && get_or a.flags.now j false) (lt-leb a.from j h))),
 )
 
-shared_slice_read_found : tie.Need-shared-slice-read-found invariant-loop decreases-loop
+shared_slice_read_found : tie.Need-bounds-flags-i invariant-loop-i decreases-loop-i
 shared_slice_read_found c = search rules
 
-add_i : tie.Need-overflow-add-i invariant-loop decreases-loop
+add_i : tie.Need-overflow_add-i invariant-loop-i decreases-loop-i
 add_i c = search rules
 
-loop_less : tie.Need-loop-smaller invariant-loop decreases-loop
+loop_less : tie.Need-loop-i-smaller invariant-loop-i decreases-loop-i
 loop_less c = search rules
 
-loop_again : tie.Need-loop-preserved invariant-loop decreases-loop
-loop_again c = let a = c.before.before.before.args in
-    let i = c.before.before.loop.i in
+loop_again : tie.Need-loop-i-preserved invariant-loop-i decreases-loop-i
+loop_again c = let a = c.args in
+    let i = c.loop-i.i in
     let g : ℕ → Bool = λ n. leb a.from n && get_or a.flags.now n false in
-    let h = c.before.before.loop.invariant in (
+    let h = c.loop-i.invariant in (
       omega arith,
       ap₂ (λ x y. x || (y && get_or a.flags.now i false)) h.1 (sym (le-leb a.from i h.0)) ∙ sym (ap (λ n. any g (below n)) (add-one i) ∙ any_more g i),
     )
 
-returns : tie.Need-returns invariant-loop decreases-loop
+returns : tie.Need-returns invariant-loop-i decreases-loop-i
 unfolding set_of
-returns c = let a = c.before.before.args in
+returns c = let a = c.args in
     let s = a.flags.now in
     let g : ℕ → Bool = λ n. leb a.from n && get_or s n false in
-    c.before.loop.invariant.1
-    ∙ any_beyond g (length s) c.before.loop.i (omega arith) (λ j h. ap (λ b. leb a.from j && b) (get_or-eq_default s false h) ∙ and-false (leb a.from j))
+    c.loop-i.invariant.1
+    ∙ any_beyond g (length s) c.loop-i.i (omega arith) (λ j h. ap (λ b. leb a.from j && b) (get_or-eq_default s false h) ∙ and-false (leb a.from j))
     ∙ sym (any_keep (λ n. leb a.from n) (λ n. get_or s n false) (below (length s)))
 
 pub any_from_spec : {M : Type 1} → statement M
 any_from_spec =
     tie.close
     (tie.spec
-    invariant-loop
-    decreases-loop
+    invariant-loop-i
+    decreases-loop-i
     loop_holds
     shared_slice_read_found
     add_i

@@ -10,27 +10,27 @@ use borrow.Author.Rules.{rules}
 use Rattle.bits.proofs.bit_from.Statement.{statement}
 use Rattle.bits.proofs.bit_from.Tie as tie
 
-returns : tie.Need-returns
-returns c = let a = c.before.args in
+returns : tie.Need-returns-then-from-base
+returns c = let a = c.args in
     let e : 0 ≡ a.from - a.base = omega arith in
     ap (λ x. not (eqb x 0)) (sym (div-one a.w) ∙ ap (λ n. a.w / 2 ^ n) e)
 
-sub_lowest : tie.Need-overflow-sub-lowest
+sub_lowest : tie.Need-overflow_sub-lowest
 sub_lowest c = search rules
 
-returns_2 : tie.Need-returns-2
-returns_2 c = let a = c.before.before.args in
+returns_2 : tie.Need-returns-then-lowest-ge32
+returns_2 c = let a = c.args in
     let h : a.w < 2 ^ 32 = omega arith in
     let k : 32 ≤ a.from - a.base = omega arith in
     sym (ap (λ x. not (eqb x 0)) (div-eq_of_lt (lt_of_lt_of_le h (pow_mono k))))
 
-cast_result : tie.Need-overflow-cast-result
+cast_result : tie.Need-overflow_cast-result
 cast_result c = search rules
 
-shr_result : tie.Need-overflow-shr-result
+shr_result : tie.Need-overflow_shr-result
 shr_result c = search rules
 
-returns_3 : tie.Need-returns-3
+returns_3 : tie.Need-returns
 returns_3 c = search rules
 
 pub bit_from_spec : {M : Type 1} → statement M

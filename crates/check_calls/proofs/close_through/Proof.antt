@@ -9,74 +9,74 @@ use Rattle.check_calls.proofs.Rows.{Half, half_none, half_kept, half_joined, hal
 use Rattle.check_calls.proofs.close_through.Statement.{statement}
 use Rattle.check_calls.proofs.close_through.Tie as tie
 
-abbrev invariant-loop : tie.invariant-loop
-invariant-loop k procedures rows₀ p₀ rows p = (length rows ≡ 64) × (p ≤ procedures) × Half k p rows₀ rows
+abbrev invariant-loop-p : tie.invariant-loop-p
+invariant-loop-p k procedures rows₀ p₀ rows p = (length rows ≡ 64) × (p ≤ procedures) × Half k p rows₀ rows
 
-abbrev decreases-loop : tie.decreases-loop
-decreases-loop k procedures rows₀ p₀ rows p = procedures - p
+abbrev decreases-loop-p : tie.decreases-loop-p
+decreases-loop-p k procedures rows₀ p₀ rows p = procedures - p
 
-loop_holds : tie.Need-loop-init invariant-loop decreases-loop
+loop_holds : tie.Need-loop-p-init invariant-loop-p decreases-loop-p
 loop_holds c = (c.requires.1.1, search rules, half_none c.args.k c.args.rows.now)
 
-mul_if1 : tie.Need-overflow-mul-if1 invariant-loop decreases-loop
+mul_if1 : tie.Need-offset_bounds-rows-p invariant-loop-p decreases-loop-p
 mul_if1 c = search rules
 
-index_1_if1 : tie.Need-bounds-1-if1 invariant-loop decreases-loop
+index_1_if1 : tie.Need-bounds-rows-p invariant-loop-p decreases-loop-p
 index_1_if1 c = search rules
 
-index_2_if1 : tie.Need-bounds-2-if1 invariant-loop decreases-loop
+index_2_if1 : tie.Need-bounds-rows-k invariant-loop-p decreases-loop-p
 index_2_if1 c = search rules
 
-mul_joined : tie.Need-overflow-mul-joined invariant-loop decreases-loop
+mul_joined : tie.Need-offset_bounds-rows-p-then-rows-p invariant-loop-p decreases-loop-p
 mul_joined c = search rules
 
-element_copy_out_joined : tie.Need-element-copy-out-joined invariant-loop decreases-loop
+element_copy_out_joined : tie.Need-bounds-rows-p-then-rows-p invariant-loop-p decreases-loop-p
 element_copy_out_joined c = search rules
 
-mul_joined_2 : tie.Need-overflow-mul-joined-2 invariant-loop decreases-loop
+mul_joined_2 : tie.Need-offset_bounds-rows-k invariant-loop-p decreases-loop-p
 mul_joined_2 c = search rules
 
-element_copy_out_joined_2 : tie.Need-element-copy-out-joined-2 invariant-loop decreases-loop
+element_copy_out_joined_2 : tie.Need-bounds-rows-k-then-rows-p invariant-loop-p decreases-loop-p
 element_copy_out_joined_2 c = search rules
 
-joined_requires : tie.Need-joined-requires invariant-loop decreases-loop
+joined_requires : tie.Need-joined-requires invariant-loop-p decreases-loop-p
 joined_requires c κs = search rules
 
-mul_t21 : tie.Need-overflow-mul-t21 invariant-loop decreases-loop
+mul_t21 : tie.Need-offset_bounds-rows-p-then-rows-p-2 invariant-loop-p decreases-loop-p
 mul_t21 c = search rules
 
-element_set_from_rows : tie.Need-element-set-from-rows invariant-loop decreases-loop
+element_set_from_rows : tie.Need-bounds-rows-p-then-rows-p-2 invariant-loop-p decreases-loop-p
 element_set_from_rows c = search rules
 
-add_p : tie.Need-overflow-add-p invariant-loop decreases-loop
+add_p : tie.Need-overflow_add-p invariant-loop-p decreases-loop-p
 add_p c = search rules
 
-loop_less : tie.Need-loop-smaller invariant-loop decreases-loop
+loop_less : tie.Need-loop-p-smaller invariant-loop-p decreases-loop-p
 loop_less c = search rules
 
-loop_again : tie.Need-loop-preserved invariant-loop decreases-loop
+loop_again : tie.Need-loop-p-preserved invariant-loop-p decreases-loop-p
 loop_again c =
     let b = c.before.before.before.before in
-    let h = c.before.before.before.loop.invariant in
-    let p = c.before.before.before.loop.p in
-    let r = c.before.before.before.loop.rows in
+    let h = c.loop-p.invariant in
+    let p = c.loop-p.p in
+    let r = c.loop-p.rows in
     ⊎_elim
-    (λ w. rw w.4 (length-set r p _ ∙ h.0, omega arith, half_joined b.args.k p b.args.rows.now r h.2 w.0.taken (omega arith) _ w.3.ensures))
-    (λ w. rw w.1 (h.0, omega arith, half_kept b.args.k p b.args.rows.now r h.2 w.0.left))
-    c.if1.branch
+    (λ w. rw w.rows-is (length-set r p _ ∙ h.0, omega arith, half_joined b.args.k p b.args.rows.now r h.2 w.if-rows-p.true (omega arith) _ w.joined.ensures))
+    (λ w. rw w.rows-is (h.0, omega arith, half_kept b.args.k p b.args.rows.now r h.2 w.if-rows-p.false))
+    c.if-rows-p.branch-raw
 
-returns : tie.Need-returns invariant-loop decreases-loop
+returns : tie.Need-returns invariant-loop-p decreases-loop-p
 returns c =
     let b = c.before.before in
-    let e : c.before.loop.p ≡ b.args.procedures = omega arith in
-    half_all b.args.procedures b.args.k b.args.rows.now c.before.loop.rows (omega arith) (subst (λ n. Half b.args.k n b.args.rows.now c.before.loop.rows) e c.before.loop.invariant.2)
+    let e : c.loop-p.p ≡ b.args.procedures = omega arith in
+    half_all b.args.procedures b.args.k b.args.rows.now c.loop-p.rows (omega arith) (subst (λ n. Half b.args.k n b.args.rows.now c.loop-p.rows) e c.loop-p.invariant.2)
 
 pub close_through_spec : {M : Type 1} → statement M
 close_through_spec =
     tie.close
     (tie.spec
-    invariant-loop
-    decreases-loop
+    invariant-loop-p
+    decreases-loop-p
     loop_holds
     mul_if1
     index_1_if1

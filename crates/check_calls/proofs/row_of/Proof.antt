@@ -41,31 +41,31 @@ past x q e j flag below above = go (dec_lt j q)
         let z : x / 2 ^ j ≡ 0 = ap (λ n. x / 2 ^ n) (sym k) ∙ sym (shr-shr x q (j - q)) ∙ ap (λ n. n / 2 ^ (j - q)) e ∙ zero-div (2 ^ (j - q)) in
         above (omega arith) ∙ ap (λ n. eqb (n % 2) 1) (sym z)
 
-abbrev invariant-loop : tie.invariant-loop
-invariant-loop set row₀ rest₀ q₀ row rest q = (length row ≡ 64) × (q ≤ 64) × (rest ≡ set / 2 ^ q) × ((j : ℕ) → j < q → get_or row j false ≡ in_set set j) × ((j : ℕ) → q ≤ j → get_or row j false ≡ false)
+abbrev invariant-loop-rest : tie.invariant-loop-rest
+invariant-loop-rest set row₀ rest₀ q₀ row rest q = (length row ≡ 64) × (q ≤ 64) × (rest ≡ set / 2 ^ q) × ((j : ℕ) → j < q → get_or row j false ≡ in_set set j) × ((j : ℕ) → q ≤ j → get_or row j false ≡ false)
 
-abbrev decreases-loop : tie.decreases-loop
-decreases-loop set row₀ rest₀ q₀ row rest q = rest
+abbrev decreases-loop-rest : tie.decreases-loop-rest
+decreases-loop-rest set row₀ rest₀ q₀ row rest q = rest
 
-loop_holds : tie.Need-loop-init invariant-loop decreases-loop
+loop_holds : tie.Need-loop-rest-init invariant-loop-rest decreases-loop-rest
 loop_holds c = (refl, search rules, sym (div-one c.args.set), λ j h. absurd (not-suc-le-zero h), λ j h. none j)
 
-array_write_row : tie.Need-array-write-row invariant-loop decreases-loop
-array_write_row c = room c.before.before.args.set c.before.loop.q (omega arith) c.before.loop.invariant.1 (λ e. c.loop-test.true (c.before.loop.invariant.2 ∙ e))
+array_write_row : tie.Need-bounds-row-q invariant-loop-rest decreases-loop-rest
+array_write_row c = room c.args.set c.loop-rest.q (omega arith) c.loop-rest.invariant.1 (λ e. c.loop-rest-test.true (c.loop-rest.invariant.2 ∙ e))
 
-add_q : tie.Need-overflow-add-q invariant-loop decreases-loop
+add_q : tie.Need-overflow_add-q invariant-loop-rest decreases-loop-rest
 add_q c = search rules
 
-loop_less : tie.Need-loop-smaller invariant-loop decreases-loop
+loop_less : tie.Need-loop-rest-smaller invariant-loop-rest decreases-loop-rest
 loop_less c = omega arith
 
-loop_again : tie.Need-loop-preserved invariant-loop decreases-loop
+loop_again : tie.Need-loop-rest-preserved invariant-loop-rest decreases-loop-rest
 unfolding in_set
 loop_again c =
-    let x = c.before.before.args.set in
-    let row = c.before.loop.row in
-    let q = c.before.loop.q in
-    let h = c.before.loop.invariant in
+    let x = c.args.set in
+    let row = c.loop-rest.row in
+    let q = c.loop-rest.q in
+    let h = c.loop-rest.invariant in
     let lt : q < 64 = array_write_row c in (
       length-set row q _ ∙ h.0,
       omega arith,
@@ -74,13 +74,13 @@ loop_again c =
       λ j le. get_or-set_other row q j _ false (λ e. omega arith) ∙ h.4 j (omega arith),
     )
 
-returns : tie.Need-returns invariant-loop decreases-loop
+returns : tie.Need-returns invariant-loop-rest decreases-loop-rest
 returns c =
-    let x = c.before.before.args.set in
-    let h = c.before.loop.invariant in
-    λ j lt. past x c.before.loop.q (sym h.2 ∙ c.loop-test.false) j (get_or c.before.loop.row j false) (h.3 j) (h.4 j)
+    let x = c.args.set in
+    let h = c.loop-rest.invariant in
+    λ j lt. past x c.loop-rest.q (sym h.2 ∙ c.loop-rest-test.false) j (get_or c.loop-rest.row j false) (h.3 j) (h.4 j)
 
 pub row_of_spec : {M : Type 1} → statement M
 row_of_spec =
     tie.close
-    (tie.spec invariant-loop decreases-loop loop_holds array_write_row add_q loop_less loop_again returns)
+    (tie.spec invariant-loop-rest decreases-loop-rest loop_holds array_write_row add_q loop_less loop_again returns)

@@ -6,29 +6,29 @@ use borrow.Author.Rules.{rules}
 use Rattle.check_faults.proofs.count_verdict.Statement.{statement}
 use Rattle.check_faults.proofs.count_verdict.Tie as tie
 
-add_least : tie.Need-overflow-add-least
+add_least : tie.Need-overflow_add-least
 add_least c = search rules
 
-add_least_2 : tie.Need-overflow-add-least-2
+add_least_2 : tie.Need-overflow_add-least-2
 add_least_2 c = search rules
 
-returns : tie.Need-returns
+returns : tie.Need-returns-then-count-least
 returns c =
-    let b = c.before.before.before.args in
+    let b = c.args in
     rw (lt-ltb b.count (2 + b.sizes.agents + b.sizes.procedures) (omega arith))
 
-add_if2 : tie.Need-overflow-add-if2
+add_if2 : tie.Need-overflow_add-least-3
 add_if2 c = search rules
 
-returns_2 : tie.Need-returns-2
+returns_2 : tie.Need-returns-then-least-count
 returns_2 c =
-    let b = c.before.before.before.before.args in
+    let b = c.args in
     let least = 2 + b.sizes.agents + b.sizes.procedures in
     rw (le-ltb b.count least (omega arith), lt-ltb (least + 256) b.count (omega arith))
 
-returns_3 : tie.Need-returns-3
+returns_3 : tie.Need-returns
 returns_3 c =
-    let b = c.before.before.before.before.args in
+    let b = c.args in
     let least = 2 + b.sizes.agents + b.sizes.procedures in
     rw (le-ltb b.count least (omega arith), le-ltb (least + 256) b.count (omega arith))
 

@@ -12,71 +12,71 @@ use Rattle.check_faults.proofs.Faults.{fault_step, fault_end}
 use Rattle.check_faults.proofs.first_fault.Statement.{statement}
 use Rattle.check_faults.proofs.first_fault.Tie as tie
 
-abbrev invariant-loop : tie.invariant-loop
-invariant-loop s sizes count k₀ k = (1 ≤ k) × (count ≡ length (words s)) × (first_fault sizes 1 (drop 1 (words s)) ≡ first_fault sizes k (drop k (words s)))
+abbrev invariant-loop-k : tie.invariant-loop-k
+invariant-loop-k s sizes count k₀ k = (1 ≤ k) × (count ≡ length (words s)) × (first_fault sizes 1 (drop 1 (words s)) ≡ first_fault sizes k (drop k (words s)))
 
-abbrev decreases-loop : tie.decreases-loop
-decreases-loop s sizes count k₀ k = count - k
+abbrev decreases-loop-k : tie.decreases-loop-k
+decreases-loop-k s sizes count k₀ k = count - k
 
 -- a turn judges word k
-turn : (c : tie.After-word-verdict invariant-loop decreases-loop) →
+turn : (c : tie.After-word_verdict-found invariant-loop-k decreases-loop-k) →
     let b = c.before.before.before.before.before.before in
-    let k = c.before.before.before.loop.k in
+    let k = c.loop-k.k in
     first_fault b.args.sizes 1 (drop 1 (words b.args.s.now))
-    ≡ or_else c.word-verdict.result (first_fault b.args.sizes (k + 1) (drop (k + 1) (words b.args.s.now)))
+    ≡ or_else c.word_verdict-found.result (first_fault b.args.sizes (k + 1) (drop (k + 1) (words b.args.s.now)))
 turn c =
     let b = c.before.before.before.before.before.before in
-    let k = c.before.before.before.loop.k in
+    let k = c.loop-k.k in
     let rest = first_fault b.args.sizes (k + 1) (drop (k + 1) (words b.args.s.now)) in
-    c.before.before.before.loop.invariant.2
+    c.loop-k.invariant.2
     ∙ fault_step b.args.sizes k (words b.args.s.now) (omega arith)
-    ∙ sym (ap (λ v. or_else v rest) (c.word-verdict.ensures ∙ ap (word_verdict b.args.sizes k) c.before.word_at.ensures))
+    ∙ sym (ap (λ v. or_else v rest) (c.word_verdict-found.ensures ∙ ap (word_verdict b.args.sizes k) c.word_at.ensures))
 
-word_count_requires : tie.Need-word-count-requires invariant-loop decreases-loop
+word_count_requires : tie.Need-word_count-count-requires invariant-loop-k decreases-loop-k
 word_count_requires c κs = search rules
 
-loop_holds : tie.Need-loop-init invariant-loop decreases-loop
-loop_holds c = (search rules, c.word_count.ensures, refl)
+loop_holds : tie.Need-loop-k-init invariant-loop-k decreases-loop-k
+loop_holds c = (search rules, c.word_count-count.ensures, refl)
 
-word_at_requires : tie.Need-word-at-requires invariant-loop decreases-loop
+word_at_requires : tie.Need-word_at-requires invariant-loop-k decreases-loop-k
 word_at_requires c κs = search rules
 
-word_verdict_requires : tie.Need-word-verdict-requires invariant-loop decreases-loop
+word_verdict_requires : tie.Need-word_verdict-found-requires invariant-loop-k decreases-loop-k
 word_verdict_requires c κs = search rules
 
-number_of_requires : tie.Need-number-of-requires invariant-loop decreases-loop
+number_of_requires : tie.Need-number_of-requires invariant-loop-k decreases-loop-k
 number_of_requires c κs = search rules
 
-returns : tie.Need-returns invariant-loop decreases-loop
+returns : tie.Need-returns-then-number_of-ne0 invariant-loop-k decreases-loop-k
 returns c =
     let t = c.before.before in
-    sym (turn t ∙ or_else_refused t.word-verdict.result _ (λ e. c.if1.true (c.before.number_of_lem.ensures ∙ e)))
+    sym (turn t ∙ or_else_refused t.word_verdict-found.result _ (λ e. c.if-number_of-ne0.true (c.number_of.ensures ∙ e)))
 
-add_k : tie.Need-overflow-add-k invariant-loop decreases-loop
+add_k : tie.Need-overflow_add-k invariant-loop-k decreases-loop-k
 add_k c = search rules
 
-loop_less : tie.Need-loop-smaller invariant-loop decreases-loop
+loop_less : tie.Need-loop-k-smaller invariant-loop-k decreases-loop-k
 loop_less c = search rules
 
-loop_again : tie.Need-loop-preserved invariant-loop decreases-loop
+loop_again : tie.Need-loop-k-preserved invariant-loop-k decreases-loop-k
 loop_again c =
     let t = c.before.before in (
       search rules,
-      t.before.before.before.loop.invariant.1,
-      turn t ∙ or_else_accepted t.word-verdict.result _ (sym c.before.number_of_lem.ensures ∙ c.if1.false),
+      t.loop-k.invariant.1,
+      turn t ∙ or_else_accepted t.word_verdict-found.result _ (sym c.number_of.ensures ∙ c.if-number_of-ne0.false),
     )
 
-returns_2 : tie.Need-returns-2 invariant-loop decreases-loop
+returns_2 : tie.Need-returns invariant-loop-k decreases-loop-k
 returns_2 c =
     let b = c.before.before.before.before in
-    sym (c.before.loop.invariant.2 ∙ fault_end b.args.sizes c.before.loop.k (words b.args.s.now) (omega arith))
+    sym (c.loop-k.invariant.2 ∙ fault_end b.args.sizes c.loop-k.k (words b.args.s.now) (omega arith))
 
 pub first_fault_spec : {M : Type 1} → statement M
 first_fault_spec =
     tie.close
     (tie.spec
-    invariant-loop
-    decreases-loop
+    invariant-loop-k
+    decreases-loop-k
     word_count_requires
     loop_holds
     word_at_requires

@@ -8,51 +8,51 @@ use borrow.Author.Rules.{rules}
 use Rattle.check_faults.proofs.word_verdict.Statement.{statement}
 use Rattle.check_faults.proofs.word_verdict.Tie as tie
 
-ports_verdict_requires : tie.Need-ports-verdict-requires
+ports_verdict_requires : tie.Need-ports_verdict-requires
 ports_verdict_requires c κs = search rules
 
-returns : tie.Need-returns
+returns : tie.Need-returns-then-k-lt2
 unfolding word_verdict
-returns c = c.ports-verdict.ensures ∙ sym (rw (lt-ltb _ _ c.before.if1.true))
+returns c = c.ports_verdict.ensures ∙ sym (rw (lt-ltb _ _ c.if-k-lt2.true))
 
-add_if2 : tie.Need-overflow-add-if2
+add_if2 : tie.Need-overflow_add-sizes
 add_if2 c = search rules
 
-decode_agent_requires : tie.Need-decode-agent-requires
+decode_agent_requires : tie.Need-decode_agent-requires
 decode_agent_requires c κs = search rules
 
-agent_verdict_requires : tie.Need-agent-verdict-requires
+agent_verdict_requires : tie.Need-agent_verdict-requires
 agent_verdict_requires c κs = search rules
 
-returns_2 : tie.Need-returns-2
+returns_2 : tie.Need-returns-then-k-sizes
 unfolding word_verdict
 returns_2 c =
     let b = c.before.before.before.before.before in
-    c.agent-verdict.ensures
-    ∙ ap (agent_verdict b.args.sizes (b.args.k - 2)) c.before.decode_agent_lem.ensures
-    ∙ sym (rw (le-ltb _ _ c.before.before.before.before.if1.false, lt-ltb _ _ c.before.before.if2.true))
+    c.agent_verdict.ensures
+    ∙ ap (agent_verdict b.args.sizes (b.args.k - 2)) c.decode_agent.ensures
+    ∙ sym (rw (le-ltb _ _ c.if-k-lt2.false, lt-ltb _ _ c.if-k-sizes.true))
 
-add_if3 : tie.Need-overflow-add-if3
+add_if3 : tie.Need-overflow_add-sizes-2
 add_if3 c = search rules
 
-add_if3_2 : tie.Need-overflow-add-if3-2
+add_if3_2 : tie.Need-overflow_add-sizes-3
 add_if3_2 c = search rules
 
-root_verdict_requires : tie.Need-root-verdict-requires
+root_verdict_requires : tie.Need-root_verdict-requires
 root_verdict_requires c κs = search rules
 
-returns_3 : tie.Need-returns-3
+returns_3 : tie.Need-returns-then-k-sizes-2
 unfolding word_verdict
 returns_3 c =
-    c.root-verdict.ensures ∙ sym (rw (le-ltb _ _ c.before.before.before.before.before.before.if1.false, le-ltb _ _ c.before.before.before.before.if2.false, lt-ltb _ _ c.before.if3.true))
+    c.root_verdict.ensures ∙ sym (rw (le-ltb _ _ c.if-k-lt2.false, le-ltb _ _ c.if-k-sizes.false, lt-ltb _ _ c.if-k-sizes-2.true))
 
-rule_verdict_requires : tie.Need-rule-verdict-requires
+rule_verdict_requires : tie.Need-rule_verdict-requires
 rule_verdict_requires c κs = search rules
 
-returns_4 : tie.Need-returns-4
+returns_4 : tie.Need-returns
 unfolding word_verdict
 returns_4 c =
-    c.rule-verdict.ensures ∙ sym (rw (le-ltb _ _ c.before.before.before.before.before.before.if1.false, le-ltb _ _ c.before.before.before.before.if2.false, le-ltb _ _ c.before.if3.false))
+    c.rule_verdict.ensures ∙ sym (rw (le-ltb _ _ c.if-k-lt2.false, le-ltb _ _ c.if-k-sizes.false, le-ltb _ _ c.if-k-sizes-2.false))
 
 pub word_verdict_spec : {M : Type 1} → statement M
 word_verdict_spec =

@@ -21,25 +21,25 @@ not_below h i t b lt le = rw (lt-leb h.tokens t lt, le-leb)
 nothing_wrong : (h : Sizes) (i t b : ℕ) → t < h.tokens → b < i → Accepted ≡ agent_verdict h i (Whole (When t b))
 nothing_wrong h i t b lt below = rw (lt-leb h.tokens t lt, lt-leb)
 
-add_t6 : tie.Need-overflow-add-t6
+add_t6 : tie.Need-overflow_add-result
 add_t6 c = search rules
 
-returns : tie.Need-returns
+returns : tie.Need-returns-then-sizes-token
 returns c =
-    let b = c.before.before.args in
+    let b = c.args in
     unknown_token b.sizes b.i b.token b.body (omega arith)
 
-add_t7 : tie.Need-overflow-add-t7
+add_t7 : tie.Need-overflow_add-result-then-i-body
 add_t7 c = search rules
 
-returns_2 : tie.Need-returns-2
+returns_2 : tie.Need-returns-then-i-body
 returns_2 c =
-    let b = c.before.before.before.args in
+    let b = c.args in
     not_below b.sizes b.i b.token b.body (omega arith) (omega arith)
 
-returns_3 : tie.Need-returns-3
+returns_3 : tie.Need-returns
 returns_3 c =
-    let b = c.before.before.before.args in
+    let b = c.args in
     nothing_wrong b.sizes b.i b.token b.body (omega arith) (omega arith)
 
 pub guarded_verdict_spec : {M : Type 1} → statement M

@@ -11,63 +11,63 @@ use Rattle.check_words.proofs.ports_verdict.Statement.{statement}
 use Rattle.check_words.proofs.ports_verdict.Tie as tie
 
 -- Stations of the walk, each from a later place.
-abbrev to_form : tie.After-struct-known2 → tie.Else1
+abbrev to_form : tie.After-struct_known-2-1 → tie.Else-not-is_word
 to_form c = c.before.before.before.before.before
 
-is_word_requires : tie.Need-is-word-requires
+is_word_requires : tie.Need-is_word-requires
 is_word_requires c κs = search rules
 
-returns : tie.Need-returns
+returns : tie.Need-returns-then-not-is_word
 returns c =
-    let b = c.before.before.args in
-    form_first b.sizes b.k (field b.w 0 8 ∷ field b.w 8 8 ∷ []) (ltb (field b.w 8 8) (field b.w 0 8)) (sym c.before.is_Is_word.ensures ∙ not-true _ c.if1.true)
+    let b = c.args in
+    form_first b.sizes b.k (field b.w 0 8 ∷ field b.w 8 8 ∷ []) (ltb (field b.w 8 8) (field b.w 0 8)) (sym c.is_word.ensures ∙ not-true _ c.if-not-is_word.true-raw)
 
-number_requires : tie.Need-number-requires
+number_requires : tie.Need-number-lowest-requires
 number_requires c κs = search rules
 
-number_requires_2 : tie.Need-number-requires-2
+number_requires_2 : tie.Need-number-highest-requires
 number_requires_2 c κs = search rules
 
-returns_2 : tie.Need-returns-2
+returns_2 : tie.Need-returns-then-sizes-lowest
 returns_2 c =
     let at-form = c.before.before.before.before in
     let at-is-word = at-form.before in
     let b = at-is-word.before in
     rw (
-      sym at-is-word.is_Is_word.ensures ∙ not-false _ at-form.if1.false,
+      sym at-is-word.is_word.ensures ∙ not-false _ at-form.if-not-is_word.false-raw,
       le-leb b.args.sizes.tokens (field b.args.w 0 8) (omega arith),
     )
 
-returns_3 : tie.Need-returns-3
+returns_3 : tie.Need-returns-then-sizes-highest
 returns_3 c =
     let at-form = to_form c.before in
     let at-is-word = at-form.before in
     let b = at-is-word.before in
     rw (
-      sym at-is-word.is_Is_word.ensures ∙ not-false _ at-form.if1.left,
+      sym at-is-word.is_word.ensures ∙ not-false _ at-form.if-not-is_word.false-raw,
       lt-leb b.args.sizes.tokens (field b.args.w 0 8) (omega arith),
       le-leb b.args.sizes.tokens (field b.args.w 8 8) (omega arith),
     )
 
-returns_4 : tie.Need-returns-4
+returns_4 : tie.Need-returns-then-highest-lowest
 returns_4 c =
     let at-form = to_form c.before.before in
     let at-is-word = at-form.before in
     let b = at-is-word.before in
     rw (
-      sym at-is-word.is_Is_word.ensures ∙ not-false _ at-form.if1.left,
+      sym at-is-word.is_word.ensures ∙ not-false _ at-form.if-not-is_word.false-raw,
       lt-leb b.args.sizes.tokens (field b.args.w 0 8) (omega arith),
       lt-leb b.args.sizes.tokens (field b.args.w 8 8) (omega arith),
       lt-ltb (field b.args.w 8 8) (field b.args.w 0 8) (omega arith),
     )
 
-returns_5 : tie.Need-returns-5
+returns_5 : tie.Need-returns
 returns_5 c =
     let at-form = to_form c.before.before in
     let at-is-word = at-form.before in
     let b = at-is-word.before in
     rw (
-      sym at-is-word.is_Is_word.ensures ∙ not-false _ at-form.if1.left,
+      sym at-is-word.is_word.ensures ∙ not-false _ at-form.if-not-is_word.false-raw,
       lt-leb b.args.sizes.tokens (field b.args.w 0 8) (omega arith),
       lt-leb b.args.sizes.tokens (field b.args.w 8 8) (omega arith),
       le-ltb (field b.args.w 8 8) (field b.args.w 0 8) (omega arith),

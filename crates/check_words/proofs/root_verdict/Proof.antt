@@ -10,30 +10,30 @@ use Rattle.check_words.proofs.AtWord.{form_first}
 use Rattle.check_words.proofs.root_verdict.Statement.{statement}
 use Rattle.check_words.proofs.root_verdict.Tie as tie
 
-is_word_requires : tie.Need-is-word-requires
+is_word_requires : tie.Need-is_word-requires
 is_word_requires c κs = search rules
 
-returns : tie.Need-returns
+returns : tie.Need-returns-then-not-is_word
 returns c =
-    let b = c.before.before.args in
-    form_first b.sizes b.k [] (leb b.sizes.agents (field b.w 0 10)) (sym c.before.is_Is_word.ensures ∙ not-true _ c.if1.true)
+    let b = c.args in
+    form_first b.sizes b.k [] (leb b.sizes.agents (field b.w 0 10)) (sym c.is_word.ensures ∙ not-true _ c.if-not-is_word.true-raw)
 
 number_requires : tie.Need-number-requires
 number_requires c κs = search rules
 
-returns_2 : tie.Need-returns-2
+returns_2 : tie.Need-returns-then-sizes-number
 returns_2 c =
     let b = c.before.before.before.before.before in
     rw (
-      sym c.before.before.before.before.is_Is_word.ensures ∙ not-false _ c.before.before.before.if1.false,
+      sym c.is_word.ensures ∙ not-false _ c.if-not-is_word.false-raw,
       le-leb b.args.sizes.agents (field b.args.w 0 10) (omega arith),
     )
 
-returns_3 : tie.Need-returns-3
+returns_3 : tie.Need-returns
 returns_3 c =
     let b = c.before.before.before.before.before in
     rw (
-      sym c.before.before.before.before.is_Is_word.ensures ∙ not-false _ c.before.before.before.if1.false,
+      sym c.is_word.ensures ∙ not-false _ c.if-not-is_word.false-raw,
       lt-leb b.args.sizes.agents (field b.args.w 0 10) (omega arith),
     )
 

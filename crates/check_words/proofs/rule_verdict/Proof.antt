@@ -17,56 +17,56 @@ use Rattle.check_words.proofs.rule_verdict.Statement.{statement}
 use Rattle.check_words.proofs.rule_verdict.Tie as tie
 
 -- Stations of the walk, each from a later place.
-abbrev to_start : tie.Else1 → tie.Start
+abbrev to_start : tie.Else-not-is_rule → tie.Start
 to_start c = c.before.before
 
-abbrev to_form : tie.After-is-fact → tie.Else1
+abbrev to_form : tie.After-is_fact → tie.Else-not-is_rule
 to_form c = c.before.before.before.before
 
 -- a fact is taken by its conclusion alone
 fact_taken : (h : Sizes) (k w : ℕ) → is_rule w ≡ true → is_fact w ≡ true → leb h.tokens (field w 0 8) ≡ false → Accepted ≡ rule_verdict h k w
 fact_taken h k w formed fact known = rw (formed, fact, known)
 
-is_rule_requires : tie.Need-is-rule-requires
+is_rule_requires : tie.Need-is_rule-requires
 is_rule_requires c κs = search rules
 
-returns : tie.Need-returns
+returns : tie.Need-returns-then-not-is_rule
 returns c =
-    let b = c.before.before.args in
-    form_first b.sizes b.k ((rule_of b.w).conclusion ∷ (rule_of b.w).premises) false (sym c.before.is-rule.ensures ∙ not-true _ c.if1.true)
+    let b = c.args in
+    form_first b.sizes b.k ((rule_of b.w).conclusion ∷ (rule_of b.w).premises) false (sym c.is_rule.ensures ∙ not-true _ c.if-not-is_rule.true-raw)
 
 number_requires : tie.Need-number-requires
 number_requires c κs = search rules
 
 -- the word is a rule
-formed : (c : tie.Else1) → is_rule c.before.before.args.w ≡ true
-formed c = sym c.before.is-rule.ensures ∙ not-false _ c.if1.false
+formed : (c : tie.Else-not-is_rule) → is_rule c.args.w ≡ true
+formed c = sym c.is_rule.ensures ∙ not-false _ c.if-not-is_rule.false-raw
 
-returns_2 : tie.Need-returns-2
+returns_2 : tie.Need-returns-then-sizes-number
 returns_2 c =
     let at-form = c.before.before.before in
     let b = to_start at-form in
     rw (formed at-form, le-leb b.args.sizes.tokens (field b.args.w 0 8) (omega arith))
 
-is_fact_requires : tie.Need-is-fact-requires
+is_fact_requires : tie.Need-is_fact-requires
 is_fact_requires c κs = search rules
 
-returns_3 : tie.Need-returns-3
+returns_3 : tie.Need-returns-then-is_fact
 returns_3 c =
     let at-form = to_form c.before in
     let b = to_start at-form in
     fact_taken b.args.sizes b.args.k b.args.w (formed at-form)
-    (sym c.before.is-fact.ensures ∙ c.if3.true)
+    (sym c.is_fact.ensures ∙ c.if-is_fact.true)
     (lt-leb b.args.sizes.tokens (field b.args.w 0 8) (omega arith))
 
 -- and no fact
-plain : (c : tie.Else3) → is_fact (to_start (to_form c.before)).args.w ≡ false
-plain c = sym c.before.is-fact.ensures ∙ c.if3.false
+plain : (c : tie.Else-is_fact) → is_fact (to_start (to_form c.before)).args.w ≡ false
+plain c = sym c.is_fact.ensures ∙ c.if-is_fact.false
 
 number_requires_2 : tie.Need-number-requires-2
 number_requires_2 c κs = search rules
 
-returns_4 : tie.Need-returns-4
+returns_4 : tie.Need-returns-then-sizes-number-2
 returns_4 c =
     let at-form = to_form c.before.before.before.before in
     let b = to_start at-form in
@@ -80,7 +80,7 @@ returns_4 c =
 number_requires_3 : tie.Need-number-requires-3
 number_requires_3 c κs = search rules
 
-returns_5 : tie.Need-returns-5
+returns_5 : tie.Need-returns-then-sizes-number-3
 returns_5 c =
     let at-form = to_form c.before.before.before.before.before.before.before in
     let b = to_start at-form in
@@ -92,7 +92,7 @@ returns_5 c =
       le-leb b.args.sizes.tokens (field b.args.w 16 8) (omega arith),
     )
 
-returns_6 : tie.Need-returns-6
+returns_6 : tie.Need-returns
 returns_6 c =
     let at-form = to_form c.before.before.before.before.before.before.before in
     let b = to_start at-form in

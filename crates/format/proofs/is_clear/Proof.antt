@@ -5,7 +5,7 @@ use borrow.Author.Rules.{rules}
 use Rattle.format.proofs.is_clear.Statement.{statement}
 use Rattle.format.proofs.is_clear.Tie as tie
 
-sub_bits : tie.Need-overflow-sub-bits
+sub_bits : tie.Need-overflow_sub-named
 sub_bits c = search rules
 
 bits_requires : tie.Need-bits-requires

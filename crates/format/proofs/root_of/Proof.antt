@@ -9,13 +9,13 @@ use borrow.Author.Rules.{rules}
 use Rattle.format.proofs.root_of.Statement.{statement}
 use Rattle.format.proofs.root_of.Tie as tie
 
-add_word_at : tie.Need-overflow-add-word-at
-add_word_at c = omega (arith, words_length c.before.args.s.now)
+add_word_at : tie.Need-overflow_add-agents
+add_word_at c = omega (arith, words_length c.args.s.now)
 
-add_word_at_2 : tie.Need-overflow-add-word-at-2
-add_word_at_2 c = omega (arith, words_length c.before.args.s.now)
+add_word_at_2 : tie.Need-overflow_add-agents-2
+add_word_at_2 c = omega (arith, words_length c.args.s.now)
 
-word_at_requires : tie.Need-word-at-requires
+word_at_requires : tie.Need-word_at-requires
 word_at_requires c κs = search rules
 
 number_requires : tie.Need-number-requires
@@ -25,8 +25,8 @@ returns : tie.Need-returns
 returns c =
     let b = c.before.before.before in
     let s = b.args.s.now in
-    let root : c.number.result ≡ field c.before.word_at.result 0 10 = c.number.ensures in
-    let word : c.before.word_at.result ≡ word_at s (2 + b.args.agents + b.args.p) = c.before.word_at.ensures in
+    let root : c.number.result ≡ field c.word_at.result 0 10 = c.number.ensures in
+    let word : c.word_at.result ≡ word_at s (2 + b.args.agents + b.args.p) = c.word_at.ensures in
     root
     ∙ ap (λ w. field w 0 10) (word ∙ ap (λ n. word_at s (2 + n + b.args.p)) b.requires.1.0)
     ∙ sym (decode_root s b.args.p b.requires.1.1)

@@ -14,20 +14,20 @@ same_sizes e f g = cc
 number_requires : tie.Need-number-requires
 number_requires c κs = search rules
 
-add_t3 : tie.Need-overflow-add-t3
-add_t3 c = omega (arith, field_below c.before.args.w 0 8)
+add_t3 : tie.Need-overflow_add-result
+add_t3 c = omega (arith, field_below c.args.w 0 8)
 
 number_requires_2 : tie.Need-number-requires-2
 number_requires_2 c κs = search rules
 
-add_t5 : tie.Need-overflow-add-t5
-add_t5 c = omega (arith, field_below c.before.before.args.w 8 10)
+add_t5 : tie.Need-overflow_add-result-2
+add_t5 c = omega (arith, field_below c.args.w 8 10)
 
 number_requires_3 : tie.Need-number-requires-3
 number_requires_3 c κs = search rules
 
-add_t7 : tie.Need-overflow-add-t7
-add_t7 c = omega (arith, field_below c.before.before.before.args.w 18 6)
+add_t7 : tie.Need-overflow_add-result-3
+add_t7 c = omega (arith, field_below c.args.w 18 6)
 
 returns : tie.Need-returns
 returns c = same_sizes (omega arith) (omega arith) (omega arith)

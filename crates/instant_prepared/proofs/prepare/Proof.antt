@@ -9,25 +9,25 @@ use Rattle.format.proofs.Decode.{sizes_few}
 use Rattle.instant_prepared.proofs.prepare.Statement.{statement}
 use Rattle.instant_prepared.proofs.prepare.Tie as tie
 
-word_at_requires : tie.Need-word-at-requires
+word_at_requires : tie.Need-word_at-requires
 word_at_requires c κs = search rules
 
-sizes_of_requires : tie.Need-sizes-of-requires
+sizes_of_requires : tie.Need-sizes_of-head-requires
 sizes_of_requires c κs = search rules
 
-sizes_are : (c : tie.After-sizes-of) → c.sizes-of.result ≡ sizes c.before.before.before.args.s.now
-sizes_are c = c.sizes-of.ensures ∙ ap sizes_of c.before.word_at.ensures
+sizes_are : (c : tie.After-sizes_of-head) → c.sizes_of-head.result ≡ sizes c.args.s.now
+sizes_are c = c.sizes_of-head.ensures ∙ ap sizes_of c.word_at.ensures
 
-few : (c : tie.After-sizes-of) → let h = c.sizes-of.result in (h.tokens ≤ 256) × (h.agents ≤ 1024) × (h.procedures ≤ 64)
-few c = subst⁻¹ (λ h. (h.tokens ≤ 256) × (h.agents ≤ 1024) × (h.procedures ≤ 64)) (sizes_are c) (sizes_few c.before.before.before.args.s.now)
+few : (c : tie.After-sizes_of-head) → let h = c.sizes_of-head.result in (h.tokens ≤ 256) × (h.agents ≤ 1024) × (h.procedures ≤ 64)
+few c = subst⁻¹ (λ h. (h.tokens ≤ 256) × (h.agents ≤ 1024) × (h.procedures ≤ 64)) (sizes_are c) (sizes_few c.args.s.now)
 
-cast_t4 : tie.Need-overflow-cast-t4
+cast_t4 : tie.Need-overflow_cast-result
 cast_t4 c = omega (arith, few c.before)
 
-cast_t5 : tie.Need-overflow-cast-t5
+cast_t5 : tie.Need-overflow_cast-result-2
 cast_t5 c = omega (arith, few c.before.before)
 
-cast_t6 : tie.Need-overflow-cast-t6
+cast_t6 : tie.Need-overflow_cast-result-3
 cast_t6 c = omega (arith, few c.before.before.before)
 
 returns : tie.Need-returns

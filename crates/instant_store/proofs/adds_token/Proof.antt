@@ -15,10 +15,10 @@ use Rattle.instant_store.proofs.adds_token.Statement.{statement}
 use Rattle.instant_store.proofs.adds_token.Tie as tie
 
 -- Stations of the walk, each from a later place.
-abbrev to_start : tie.Else1 → tie.Start
-to_start c = c.before.before.before
+abbrev to_start : tie.Else-store-token → tie.Start
+to_start c = c.before.before.before.before
 
-abbrev to_conclusion : tie.Then3 → tie.Else1
+abbrev to_conclusion : tie.Then-store-second → tie.Else-store-token
 to_conclusion c = c.before.before.before.before.before.before
 
 -- a field of 8 bits is the place of a flag
@@ -44,55 +44,55 @@ module _ (s : List Bool) (w : ℕ) (facts : Bool) where
     second_out : get_or s (field w 8 8) false ≡ true → get_or s (field w 16 8) false ≡ false → (facts && is_fact w) ≡ adds s w facts
     second_out e f = rw (out, e, f)
 
-number_requires : tie.Need-number-requires
+number_requires : tie.Need-number-token-requires
 number_requires c κs = search rules
 
-element_copy_out_if1 : tie.Need-element-copy-out-if1
-element_copy_out_if1 c = below_256 _ _ c.number.ensures
+element_copy_out_if1 : tie.Need-bounds-store-token
+element_copy_out_if1 c = below_256 _ _ c.number-token.ensures
 
-returns : tie.Need-returns
+returns : tie.Need-returns-then-store-token
 returns c =
-    let b = c.before.before.before in
-    already_in b.args.store.now b.args.w b.args.facts (flag b.args.store.now c.before.before.number.ensures c.if1.true)
+    let b = c.before.before.before.before in
+    already_in b.args.store.now b.args.w b.args.facts (flag b.args.store.now c.number-token.ensures c.if-store-token.true)
 
-number_requires_2 : tie.Need-number-requires-2
+number_requires_2 : tie.Need-number-first-requires
 number_requires_2 c κs = search rules
 
-element_copy_out_if2 : tie.Need-element-copy-out-if2
-element_copy_out_if2 c = below_256 _ _ c.number2.ensures
+element_copy_out_if2 : tie.Need-bounds-store-first
+element_copy_out_if2 c = below_256 _ _ c.number-first.ensures
 
-number_requires_3 : tie.Need-number-requires-3
+number_requires_3 : tie.Need-number-second-requires
 number_requires_3 c κs = search rules
 
-element_copy_out_if3 : tie.Need-element-copy-out-if3
-element_copy_out_if3 c = below_256 _ _ c.number3.ensures
+element_copy_out_if3 : tie.Need-bounds-store-second
+element_copy_out_if3 c = below_256 _ _ c.number-second.ensures
 
-returns_2 : tie.Need-returns-2
+returns_2 : tie.Need-returns-then-store-second
 returns_2 c =
     let at-conclusion = to_conclusion c in
     let b = to_start at-conclusion in
     let s = b.args.store.now in
-    let second : c.before.before.number3.result ≡ field b.args.w 16 8 = c.before.before.number3.ensures in
+    let second : c.number-second.result ≡ field b.args.w 16 8 = c.number-second.ensures in
     both_in s b.args.w b.args.facts
-    (flag s at-conclusion.before.before.number.ensures at-conclusion.if1.left)
-    (flag s c.before.before.before.before.before.number2.ensures c.before.before.before.if2.true)
-    (flag s second c.if3.true)
+    (flag s at-conclusion.number-token.ensures at-conclusion.if-store-token.false)
+    (flag s c.number-first.ensures c.if-store-first.true)
+    (flag s second c.if-store-second.true)
 
-is_fact_requires : tie.Need-is-fact-requires
+is_fact_requires : tie.Need-is_fact-requires
 is_fact_requires c κs = search rules
 
-returns_3 : tie.Need-returns-3
+returns_3 : tie.Need-returns
 returns_3 c =
     let at-conclusion = c.before.before.before.before in
     let b = to_start at-conclusion in
     let s = b.args.store.now in
-    let out = flag s at-conclusion.before.before.number.ensures at-conclusion.if1.false in
-    let first = c.before.before.before.number2.ensures in
-    ap (λ x. b.args.facts && x) c.is-fact.ensures
+    let out = flag s at-conclusion.number-token.ensures at-conclusion.if-store-token.false in
+    let first = c.number-first.ensures in
+    ap (λ x. b.args.facts && x) c.is_fact.ensures
     ∙ ⊎_elim
-    (λ w. second_out s b.args.w b.args.facts out (flag s first w.0.taken) (flag s w.1.ensures w.3.left))
-    (λ w. first_out s b.args.w b.args.facts out (flag s first w.left))
-    c.before.if2.branch
+    (λ w. second_out s b.args.w b.args.facts out (flag s first w.if-store-first.true) (flag s w.number-second.ensures w.if-store-second.false))
+    (λ w. first_out s b.args.w b.args.facts out (flag s first w.if-store-first.false))
+    c.if-store-first.branch-raw
 
 pub adds_token_spec : {M : Type 1} → statement M
 adds_token_spec =

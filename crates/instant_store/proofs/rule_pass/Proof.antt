@@ -15,77 +15,77 @@ use Rattle.instant_store.proofs.Passes.{Passing, passing_none, passing_skipped, 
 use Rattle.instant_store.proofs.rule_pass.Statement.{statement}
 use Rattle.instant_store.proofs.rule_pass.Tie as tie
 
-abbrev invariant-loop : tie.invariant-loop
-invariant-loop s from facts store₀ count added₀ k₀ store added k = (count ≡ length (words s)) × (rules_from s ≤ k) × Passing s k facts store₀ store added
+abbrev invariant-loop-k : tie.invariant-loop-k
+invariant-loop-k s from facts store₀ count added₀ k₀ store added k = (count ≡ length (words s)) × (rules_from s ≤ k) × Passing s k facts store₀ store added
 
-abbrev decreases-loop : tie.decreases-loop
-decreases-loop s from facts store₀ count added₀ k₀ store added k = count - k
+abbrev decreases-loop-k : tie.decreases-loop-k
+decreases-loop-k s from facts store₀ count added₀ k₀ store added k = count - k
 
-word_count_requires : tie.Need-word-count-requires invariant-loop decreases-loop
+word_count_requires : tie.Need-word_count-count-requires invariant-loop-k decreases-loop-k
 word_count_requires c κs = search rules
 
-loop_holds : tie.Need-loop-init invariant-loop decreases-loop
+loop_holds : tie.Need-loop-k-init invariant-loop-k decreases-loop-k
 loop_holds c =
     let b = c.before.before in
-    (c.word_count.ensures, search rules, passing_none b.args.s.now b.args.from b.args.facts b.args.store.now b.requires.0 b.requires.1.0 b.requires.1.1)
+    (c.word_count-count.ensures, search rules, passing_none b.args.s.now b.args.from b.args.facts b.args.store.now b.requires.0 b.requires.1.0 b.requires.1.1)
 
-word_at_requires : tie.Need-word-at-requires invariant-loop decreases-loop
+word_at_requires : tie.Need-word_at-w-requires invariant-loop-k decreases-loop-k
 word_at_requires c κs = search rules
 
-adds_token_requires : tie.Need-adds-token-requires invariant-loop decreases-loop
+adds_token_requires : tie.Need-adds_token-requires invariant-loop-k decreases-loop-k
 adds_token_requires c κs = search rules
 
-number_requires : tie.Need-number-requires invariant-loop decreases-loop
+number_requires : tie.Need-number-token-requires invariant-loop-k decreases-loop-k
 number_requires c κs = search rules
 
-element_write_store : tie.Need-element-write-store invariant-loop decreases-loop
-element_write_store c = omega (arith, field_below c.before.before.before.before.word_at.result 0 8, c.number.ensures)
+element_write_store : tie.Need-bounds-store-token invariant-loop-k decreases-loop-k
+element_write_store c = omega (arith, field_below c.word_at-w.result 0 8, c.number-token.ensures)
 
-add_added : tie.Need-overflow-add-added invariant-loop decreases-loop
+add_added : tie.Need-overflow_add-added invariant-loop-k decreases-loop-k
 add_added c =
-    let l = c.before.before.before.before.before.before.loop in
+    let l = c.loop-k in
     omega (arith, l.invariant.2.counted, l.invariant.2.long, set_length_le l.store)
 
-add_k : tie.Need-overflow-add-k invariant-loop decreases-loop
+add_k : tie.Need-overflow_add-k invariant-loop-k decreases-loop-k
 add_k c = search rules
 
-loop_less : tie.Need-loop-smaller invariant-loop decreases-loop
+loop_less : tie.Need-loop-k-smaller invariant-loop-k decreases-loop-k
 loop_less c = search rules
 
-loop_again : tie.Need-loop-preserved invariant-loop decreases-loop
+loop_again : tie.Need-loop-k-preserved invariant-loop-k decreases-loop-k
 loop_again c =
-    let b = c.before.before.before.before.before.before.before.before in
-    let l = c.before.before.before.before.before.loop in
+    let b = c.before.before.before.before.before.before.before in
+    let l = c.loop-k in
     let s = b.args.s.now in
-    let word = c.before.before.before.word_at.ensures in
+    let word = c.word_at-w.ensures in
     let facts = b.args.facts in
-    let answer = c.before.adds-token.ensures ∙ ap (λ x. adds l.store x facts) word in
+    let answer = c.adds_token.ensures ∙ ap (λ x. adds l.store x facts) word in
     ⊎_elim
-    (λ w. rw (w.2, w.3) (
+    (λ w. rw (w.store-is, w.added-is) (
       l.invariant.0,
       omega arith,
       subst⁻¹ (λ t. Passing s (l.k + 1) facts b.args.store.now (set l.store t true) (l.added + 1))
-          (w.1.ensures ∙ ap (λ x. field x 0 8) word)
-          (passing_added s l.k facts b.args.store.now l.store l.added l.invariant.2 (omega arith) (sym answer ∙ w.0.taken)),
+          (w.number-token.ensures ∙ ap (λ x. field x 0 8) word)
+          (passing_added s l.k facts b.args.store.now l.store l.added l.invariant.2 (omega arith) (sym answer ∙ w.if-adds_token.true)),
     ))
-    (λ w. rw (w.1, w.2) (
+    (λ w. rw (w.store-is, w.added-is) (
       l.invariant.0,
       omega arith,
-      passing_skipped s l.k facts b.args.store.now l.store l.added l.invariant.2 l.invariant.1 (omega arith) (sym answer ∙ w.0.left),
+      passing_skipped s l.k facts b.args.store.now l.store l.added l.invariant.2 l.invariant.1 (omega arith) (sym answer ∙ w.if-adds_token.false),
     ))
-    c.if1.branch
+    c.if-adds_token.branch-raw
 
-returns : tie.Need-returns invariant-loop decreases-loop
+returns : tie.Need-returns invariant-loop-k decreases-loop-k
 returns c =
     let b = c.before.before.before.before in
-    passing_all b.args.s.now c.before.loop.k b.args.facts b.args.store.now c.before.loop.store c.before.loop.added c.before.loop.invariant.2 (omega arith)
+    passing_all b.args.s.now c.loop-k.k b.args.facts b.args.store.now c.loop-k.store c.loop-k.added c.loop-k.invariant.2 (omega arith)
 
 pub rule_pass_spec : {M : Type 1} → statement M
 rule_pass_spec =
     tie.close
     (tie.spec
-    invariant-loop
-    decreases-loop
+    invariant-loop-k
+    decreases-loop-k
     word_count_requires
     loop_holds
     word_at_requires

@@ -11,65 +11,65 @@ use Rattle.journal_form.proofs.Against.{form_bytes, form_words, against_good, ag
 use Rattle.journal_form.proofs.form_of.Statement.{statement}
 use Rattle.journal_form.proofs.form_of.Tie as tie
 
-abbrev invariant-loop : tie.invariant-loop
-invariant-loop bytes tokens journal count last₀ k₀ last k = (count ≡ length (words bytes)) × (first_against journal tokens 0 0 (words bytes) ≡ first_against journal tokens k last (drop k (words bytes)))
+abbrev invariant-loop-k : tie.invariant-loop-k
+invariant-loop-k bytes tokens journal count last₀ k₀ last k = (count ≡ length (words bytes)) × (first_against journal tokens 0 0 (words bytes) ≡ first_against journal tokens k last (drop k (words bytes)))
 
-abbrev decreases-loop : tie.decreases-loop
-decreases-loop bytes tokens journal count last₀ k₀ last k = count - k
+abbrev decreases-loop-k : tie.decreases-loop-k
+decreases-loop-k bytes tokens journal count last₀ k₀ last k = count - k
 
-returns : tie.Need-returns invariant-loop decreases-loop
+returns : tie.Need-returns-then-bytes-ne0 invariant-loop-k decreases-loop-k
 returns c =
-    let a = c.before.before.args in
-    sym (form_bytes a.journal a.tokens a.bytes.now c.if1.true)
+    let a = c.args in
+    sym (form_bytes a.journal a.tokens a.bytes.now c.if-bytes-ne0.true)
 
-word_count_requires : tie.Need-word-count-requires invariant-loop decreases-loop
+word_count_requires : tie.Need-word_count-count-requires invariant-loop-k decreases-loop-k
 word_count_requires c κs = search rules
 
-loop_holds : tie.Need-loop-init invariant-loop decreases-loop
-loop_holds c = (c.word_count.ensures, refl)
+loop_holds : tie.Need-loop-k-init invariant-loop-k decreases-loop-k
+loop_holds c = (c.word_count-count.ensures, refl)
 
-word_at_requires : tie.Need-word-at-requires invariant-loop decreases-loop
+word_at_requires : tie.Need-word_at-w-requires invariant-loop-k decreases-loop-k
 word_at_requires c κs = search rules
 
-may_follow_requires : tie.Need-may-follow-requires invariant-loop decreases-loop
+may_follow_requires : tie.Need-may_follow-requires invariant-loop-k decreases-loop-k
 may_follow_requires c κs = search rules
 
-returns_2 : tie.Need-returns-2 invariant-loop decreases-loop
+returns_2 : tie.Need-returns-then-not-may_follow invariant-loop-k decreases-loop-k
 returns_2 c =
     let b = c.before.before.before.before.before.before in
-    let a = b.before.before.args in
-    let l = c.before.before.before.before.loop in
-    sym (form_words a.journal a.tokens a.bytes.now b.if1.false
+    let a = b.args in
+    let l = c.loop-k in
+    sym (form_words a.journal a.tokens a.bytes.now b.if-bytes-ne0.false
     ∙ l.invariant.1
-    ∙ against_here a.journal a.tokens l.last l.k (words a.bytes.now) (omega arith) c.before.before.word_at.ensures c.before.may-follow.ensures (not-true _ c.if2.true))
+    ∙ against_here a.journal a.tokens l.last l.k (words a.bytes.now) (omega arith) c.word_at-w.ensures c.may_follow.ensures (not-true _ c.if-not-may_follow.true-raw))
 
-add_k : tie.Need-overflow-add-k invariant-loop decreases-loop
+add_k : tie.Need-overflow_add-k invariant-loop-k decreases-loop-k
 add_k c = search rules
 
-loop_less : tie.Need-loop-smaller invariant-loop decreases-loop
+loop_less : tie.Need-loop-k-smaller invariant-loop-k decreases-loop-k
 loop_less c = search rules
 
-loop_again : tie.Need-loop-preserved invariant-loop decreases-loop
+loop_again : tie.Need-loop-k-preserved invariant-loop-k decreases-loop-k
 loop_again c =
-    let a = c.before.before.before.before.before.before.before.before.args in
-    let l = c.before.before.before.before.loop in (
+    let a = c.args in
+    let l = c.loop-k in (
       l.invariant.0,
-      l.invariant.1 ∙ against_good a.journal a.tokens l.last l.k (words a.bytes.now) (omega arith) c.before.before.word_at.ensures c.before.may-follow.ensures (not-false _ c.if2.false),
+      l.invariant.1 ∙ against_good a.journal a.tokens l.last l.k (words a.bytes.now) (omega arith) c.word_at-w.ensures c.may_follow.ensures (not-false _ c.if-not-may_follow.false-raw),
     )
 
-returns_3 : tie.Need-returns-3 invariant-loop decreases-loop
+returns_3 : tie.Need-returns invariant-loop-k decreases-loop-k
 returns_3 c =
     let b = c.before.before.before in
-    let a = b.before.before.args in
-    let l = c.before.loop in
-    sym (form_words a.journal a.tokens a.bytes.now b.if1.false ∙ l.invariant.1 ∙ against_end a.journal a.tokens l.last l.k (words a.bytes.now) (omega arith))
+    let a = b.args in
+    let l = c.loop-k in
+    sym (form_words a.journal a.tokens a.bytes.now b.if-bytes-ne0.false ∙ l.invariant.1 ∙ against_end a.journal a.tokens l.last l.k (words a.bytes.now) (omega arith))
 
 pub form_of_spec : {M : Type 1} → statement M
 form_of_spec =
     tie.close
     (tie.spec
-    invariant-loop
-    decreases-loop
+    invariant-loop-k
+    decreases-loop-k
     returns
     word_count_requires
     loop_holds

@@ -20,7 +20,7 @@ number_requires_2 : tie.Need-number-requires-2
 number_requires_2 c κs = search rules
 
 returns : tie.Need-returns
-returns c = rises_same c.before.before.before.args.kind c.before.before.bits.ensures c.before.number.ensures c.number2.ensures
+returns c = rises_same c.args.kind c.bits.ensures c.number.ensures c.number-2.ensures
 
 pub rises_spec : {M : Type 1} → statement M
 rises_spec = tie.close (tie.spec bits_requires number_requires number_requires_2 returns)

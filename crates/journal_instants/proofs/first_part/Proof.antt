@@ -8,22 +8,22 @@ use borrow.Author.Rules.{rules}
 use Rattle.journal_instants.proofs.first_part.Statement.{statement}
 use Rattle.journal_instants.proofs.first_part.Tie as tie
 
-span_of_requires : tie.Need-span-of-requires
+span_of_requires : tie.Need-span_of-end-requires
 span_of_requires c κs = search rules
 
-sub_result : tie.Need-overflow-sub-result
+sub_result : tie.Need-slice_bounds-result-count
 sub_result c = search rules
 
-part_result_start : tie.Need-slice-bounds-result-start
+part_result_start : tie.Need-slice_bounds-result-start
 part_result_start c = search rules
 
-part_result_end : tie.Need-slice-bounds-result-end
-part_result_end c = omega (arith, span_fits c.before.before.args.bytes.now, c.Span-of.ensures)
+part_result_end : tie.Need-slice_bounds-result-end
+part_result_end c = omega (arith, span_fits c.args.bytes.now, c.span_of-end.ensures)
 
 returns : tie.Need-returns
 returns c =
-    let e : c.before.Span-of.result - 0 ≡ c.before.Span-of.result = omega arith in
-    ap (λ n. take n c.before.before.before.args.bytes.now) (e ∙ c.before.Span-of.ensures)
+    let e : c.span_of-end.result - 0 ≡ c.span_of-end.result = omega arith in
+    ap (λ n. take n c.args.bytes.now) (e ∙ c.span_of-end.ensures)
 
 pub first_part_spec : {M : Type 1} → statement M
 first_part_spec =

@@ -12,62 +12,62 @@ use Rattle.journal_instants.proofs.Parts.{span_from, span_first, span_more, span
 use Rattle.journal_instants.proofs.span_of.Statement.{statement}
 use Rattle.journal_instants.proofs.span_of.Tie as tie
 
-abbrev invariant-loop : tie.invariant-loop
-invariant-loop bytes count k₀ k = (count ≡ length (words bytes)) × (span (words bytes) ≡ min (length (words bytes)) (span_from k (words bytes)))
+abbrev invariant-loop-k : tie.invariant-loop-k
+invariant-loop-k bytes count k₀ k = (count ≡ length (words bytes)) × (span (words bytes) ≡ min (length (words bytes)) (span_from k (words bytes)))
 
-abbrev decreases-loop : tie.decreases-loop
-decreases-loop bytes count k₀ k = count - k
+abbrev decreases-loop-k : tie.decreases-loop-k
+decreases-loop-k bytes count k₀ k = count - k
 
-word_count_requires : tie.Need-word-count-requires invariant-loop decreases-loop
+word_count_requires : tie.Need-word_count-count-requires invariant-loop-k decreases-loop-k
 word_count_requires c κs = search rules
 
-loop_holds : tie.Need-loop-init invariant-loop decreases-loop
-loop_holds c = (c.word_count.ensures, span_first (words c.before.before.args.bytes.now))
+loop_holds : tie.Need-loop-k-init invariant-loop-k decreases-loop-k
+loop_holds c = (c.word_count-count.ensures, span_first (words c.args.bytes.now))
 
-word_at_requires : tie.Need-word-at-requires invariant-loop decreases-loop
+word_at_requires : tie.Need-word_at-requires invariant-loop-k decreases-loop-k
 word_at_requires c κs = search rules
 
-is_instant_requires : tie.Need-is-instant-requires invariant-loop decreases-loop
+is_instant_requires : tie.Need-is_instant-requires invariant-loop-k decreases-loop-k
 is_instant_requires c κs = search rules
 
-mul_result : tie.Need-overflow-mul-result invariant-loop decreases-loop
-mul_result c = omega (arith, words_length c.before.before.before.before.before.before.before.args.bytes.now)
+mul_result : tie.Need-overflow_mul-result invariant-loop-k decreases-loop-k
+mul_result c = omega (arith, words_length c.args.bytes.now)
 
-returns : tie.Need-returns invariant-loop decreases-loop
+returns : tie.Need-returns-then-is_instant invariant-loop-k decreases-loop-k
 returns c =
-    let ws = words c.before.before.before.before.before.before.before.args.bytes.now in
-    let l = c.before.before.before.before.loop in
-    let e = sym (c.before.is_instant_lem.ensures ∙ ap is_instant c.before.before.word_at.ensures) in
-    ap (λ n. 4 * n) (sym (l.invariant.1 ∙ span_here l.k ws (omega arith) (e ∙ c.if1.true)))
+    let ws = words c.args.bytes.now in
+    let l = c.loop-k in
+    let e = sym (c.is_instant.ensures ∙ ap is_instant c.word_at.ensures) in
+    ap (λ n. 4 * n) (sym (l.invariant.1 ∙ span_here l.k ws (omega arith) (e ∙ c.if-is_instant.true)))
 
-add_k : tie.Need-overflow-add-k invariant-loop decreases-loop
+add_k : tie.Need-overflow_add-k invariant-loop-k decreases-loop-k
 add_k c = search rules
 
-loop_less : tie.Need-loop-smaller invariant-loop decreases-loop
+loop_less : tie.Need-loop-k-smaller invariant-loop-k decreases-loop-k
 loop_less c = search rules
 
-loop_again : tie.Need-loop-preserved invariant-loop decreases-loop
+loop_again : tie.Need-loop-k-preserved invariant-loop-k decreases-loop-k
 loop_again c =
-    let ws = words c.before.before.before.before.before.before.before.args.bytes.now in
-    let l = c.before.before.before.before.loop in
-    let e = sym (c.before.is_instant_lem.ensures ∙ ap is_instant c.before.before.word_at.ensures) in
-    (l.invariant.0, l.invariant.1 ∙ ap (min (length ws)) (span_more l.k ws (omega arith) (e ∙ c.if1.false)))
+    let ws = words c.args.bytes.now in
+    let l = c.loop-k in
+    let e = sym (c.is_instant.ensures ∙ ap is_instant c.word_at.ensures) in
+    (l.invariant.0, l.invariant.1 ∙ ap (min (length ws)) (span_more l.k ws (omega arith) (e ∙ c.if-is_instant.false)))
 
-mul_result_2 : tie.Need-overflow-mul-result-2 invariant-loop decreases-loop
-mul_result_2 c = omega (arith, words_length c.before.before.before.before.args.bytes.now)
+mul_result_2 : tie.Need-overflow_mul-result-2 invariant-loop-k decreases-loop-k
+mul_result_2 c = omega (arith, words_length c.args.bytes.now)
 
-returns_2 : tie.Need-returns-2 invariant-loop decreases-loop
+returns_2 : tie.Need-returns invariant-loop-k decreases-loop-k
 returns_2 c =
-    let ws = words c.before.before.before.before.args.bytes.now in
-    let l = c.before.loop in
+    let ws = words c.args.bytes.now in
+    let l = c.loop-k in
     ap (λ n. 4 * n) (l.invariant.0 ∙ sym (l.invariant.1 ∙ span_end l.k ws (omega arith)))
 
 pub span_of_spec : {M : Type 1} → statement M
 span_of_spec =
     tie.close
     (tie.spec
-    invariant-loop
-    decreases-loop
+    invariant-loop-k
+    decreases-loop-k
     word_count_requires
     loop_holds
     word_at_requires

@@ -3,7 +3,7 @@ use borrow.Author.Rules.{rules}
 use Rattle.journal_positions.proofs.form_of.Statement.{statement}
 use Rattle.journal_positions.proofs.form_of.Tie as tie
 
-form_of_requires : tie.Need-form-of-requires
+form_of_requires : tie.Need-form_of-requires
 form_of_requires c κs = search rules
 
 returns : tie.Need-returns

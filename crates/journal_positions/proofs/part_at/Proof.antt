@@ -10,7 +10,7 @@ part_requires c κs = search rules
 
 returns : tie.Need-returns
 returns c =
-    let a = c.before.before.args in
+    let a = c.args in
     c.part.ensures ∙ size_part a.journal.now a.at
 
 pub part_at_spec : {M : Type 1} → statement M

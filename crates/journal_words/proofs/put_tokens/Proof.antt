@@ -15,82 +15,82 @@ use Rattle.journal_words.proofs.Put.{listed, listed_more, listed_same}
 use Rattle.journal_words.proofs.put_tokens.Statement.{statement}
 use Rattle.journal_words.proofs.put_tokens.Tie as tie
 
-abbrev invariant-loop : tie.invariant-loop
-invariant-loop journal₀ from kind tokens set at₀ t₀ journal at t =
+abbrev invariant-loop-t : tie.invariant-loop-t
+invariant-loop-t journal₀ from kind tokens set at₀ t₀ journal at t =
     (t ≤ tokens) × (length journal ≡ length journal₀) × (at ≡ from + length (kept set t)) × (journal ≡ put from (listed kind set t) journal₀)
 
-abbrev decreases-loop : tie.decreases-loop
-decreases-loop journal₀ from kind tokens set at₀ t₀ journal at t = tokens - t
+abbrev decreases-loop-t : tie.decreases-loop-t
+decreases-loop-t journal₀ from kind tokens set at₀ t₀ journal at t = tokens - t
 
 -- Stations of the walk, each from a later place.
-abbrev to_start : tie.After-shared-slice-known2 invariant-loop decreases-loop → tie.Start invariant-loop decreases-loop
+abbrev to_start : tie.After-shared_slice_known-in-loop-t-1 invariant-loop-t decreases-loop-t → tie.Start invariant-loop-t decreases-loop-t
 to_start c = c.before.before.before.before.before
 
-abbrev to_token : tie.After-slice-known2 invariant-loop decreases-loop → tie.Then1 invariant-loop decreases-loop
+abbrev to_token : tie.After-slice_known-then-set-token-1 invariant-loop-t decreases-loop-t → tie.Then-set-token invariant-loop-t decreases-loop-t
 to_token c = c.before.before.before.before.before
 
-loop_holds : tie.Need-loop-init invariant-loop decreases-loop
+loop_holds : tie.Need-loop-t-init invariant-loop-t decreases-loop-t
 unfolding kept
-loop_holds c = let a = c.before.before.args in (omega arith, refl, omega arith, sym (put_none a.from a.journal.now))
+loop_holds c = let a = c.args in (omega arith, refl, omega arith, sym (put_none a.from a.journal.now))
 
-add_t : tie.Need-overflow-add-t invariant-loop decreases-loop
+add_t : tie.Need-overflow_add-t invariant-loop-t decreases-loop-t
 add_t c = search rules
 
-shared_slice_read_if1 : tie.Need-shared-slice-read-if1 invariant-loop decreases-loop
+shared_slice_read_if1 : tie.Need-bounds-set-token invariant-loop-t decreases-loop-t
 shared_slice_read_if1 c = search rules
 
-word_of_requires : tie.Need-word-of-requires invariant-loop decreases-loop
+word_of_requires : tie.Need-word_of-w-requires invariant-loop-t decreases-loop-t
 word_of_requires c κs = search rules
 
 -- where a token is put, not all are
-room : (c : tie.Then1 invariant-loop decreases-loop) → let b = to_start c.before in length (kept b.args.set.now c.before.before.before.loop.t) < length (set_of b.args.set.now)
+room : (c : tie.Then-set-token invariant-loop-t decreases-loop-t) → let b = to_start c.before in length (kept b.args.set.now c.loop-t.t) < length (set_of b.args.set.now)
 room c =
     let b = to_start c.before in
-    kept_room b.args.set.now b.args.tokens b.pre.1.1.0 c.before.before.before.loop.t (omega arith) c.if1.true
+    kept_room b.args.set.now b.args.tokens b.requires.1.1.0 c.loop-t.t (omega arith) c.if-set-token.true
 
-put_word_requires : tie.Need-put-word-requires invariant-loop decreases-loop
+put_word_requires : tie.Need-put_word-requires invariant-loop-t decreases-loop-t
 put_word_requires c κs = omega (arith, room c.before.before)
 
-add_at : tie.Need-overflow-add-at invariant-loop decreases-loop
+add_at : tie.Need-overflow_add-at invariant-loop-t decreases-loop-t
 add_at c = omega (arith, room (to_token c))
 
-loop_less : tie.Need-loop-smaller invariant-loop decreases-loop
+loop_less : tie.Need-loop-t-smaller-then-set-token invariant-loop-t decreases-loop-t
 loop_less c = search rules
 
-loop_again : tie.Need-loop-preserved invariant-loop decreases-loop
+loop_again : tie.Need-loop-t-preserved-then-set-token invariant-loop-t decreases-loop-t
 loop_again c =
     let at-token = to_token c in
     let b = to_start at-token.before in
-    let l = at-token.before.before.before.loop in
-    let h = l.inv in
+    let l = at-token.loop-t in
+    let h = l.invariant in
     let set = b.args.set.now in
-    let flag = at-token.if1.taken in
-    let put = c.before.before.put_word in (
+    let flag = at-token.if-set-token.true in
+    let put = c.put_word in (
       omega arith,
-      put.auto.0 ∙ h.1,
+      put.auto.bytes ∙ h.1,
       omega (arith, kept_count set l.t true flag),
       listed_more b.args.from b.args.kind set l.t b.args.journal.now flag
-          l.at c.before.before.before.before.word_of.result l.journal put.new.0 h.2 c.before.before.before.before.word_of.ensures (omega (arith, room at-token)) h.3 put.ensures,
+          l.at c.word_of-w.result l.journal put.new.bytes h.2 c.word_of-w.ensures (omega (arith, room at-token)) h.3 put.ensures,
     )
 
-loop_less_2 : tie.Need-loop-smaller-2 invariant-loop decreases-loop
+loop_less_2 : tie.Need-loop-t-smaller invariant-loop-t decreases-loop-t
 loop_less_2 c = search rules
 
-loop_again_2 : tie.Need-loop-preserved-2 invariant-loop decreases-loop
+loop_again_2 : tie.Need-loop-t-preserved invariant-loop-t decreases-loop-t
 loop_again_2 c =
     let a = (to_start c.before).args in
-    let l = c.before.before.before.loop in
+    let l = c.loop-t in
     let h = l.invariant in
     let set = a.set.now in
-    (omega arith, h.1, omega (arith, kept_count set l.t false c.if1.false), h.3 ∙ listed_same a.from a.kind set l.t a.journal.now c.if1.false)
+    (omega arith, h.1, omega (arith, kept_count set l.t false c.if-set-token.false), h.3 ∙ listed_same a.from a.kind set l.t a.journal.now c.if-set-token.false)
 
-same_length : tie.Need-same-length invariant-loop decreases-loop
+same_length : tie.Need-shape_of-journal invariant-loop-t decreases-loop-t
 same_length c = search rules
 
-returns : tie.Need-returns invariant-loop decreases-loop
+returns : tie.Need-returns invariant-loop-t decreases-loop-t
 returns c =
     let b = c.before.before.before.before in
-    let l = c.before.loop in
+    let l = c.loop-t in
     let kind = b.args.kind in
     let from = b.args.from in
     let s = b.args.journal.now in
@@ -107,8 +107,8 @@ pub put_tokens_spec : {M : Type 1} → statement M
 put_tokens_spec =
     tie.close
     (tie.spec
-    invariant-loop
-    decreases-loop
+    invariant-loop-t
+    decreases-loop-t
     loop_holds
     add_t
     shared_slice_read_if1

@@ -9,21 +9,21 @@ use Rattle.journal_words.proofs.size.Tie as tie
 count_requires : tie.Need-count-requires
 count_requires c κs = search rules
 
-add_result : tie.Need-overflow-add-result
+add_result : tie.Need-overflow_add-result
 add_result c = search rules
 
 count_requires_2 : tie.Need-count-requires-2
 count_requires_2 c κs = search rules
 
-add_result_2 : tie.Need-overflow-add-result-2
+add_result_2 : tie.Need-overflow_add-result-2
 add_result_2 c = search rules
 
-mul_result : tie.Need-overflow-mul-result
+mul_result : tie.Need-overflow_mul-result
 mul_result c = search rules
 
 returns : tie.Need-returns
 returns c =
-    let a = c.before.before.before.before.args in
+    let a = c.args in
     (λ status. omega (arith, instant_length status (set_of a.inputs.now) (set_of a.outputs.now)), omega arith)
 
 pub size_spec : {M : Type 1} → statement M

@@ -7,7 +7,7 @@ use lib.Pow.{shl_exact}
 use Rattle.journal_words.proofs.word_of.Statement.{statement}
 use Rattle.journal_words.proofs.word_of.Tie as tie
 
-cast_result : tie.Need-overflow-cast-result
+cast_result : tie.Need-overflow_cast-result
 cast_result c = search rules
 
 returns : tie.Need-returns

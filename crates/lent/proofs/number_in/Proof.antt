@@ -5,8 +5,8 @@ use Rattle.lent.specs.States.{instant_number}
 use Rattle.lent.proofs.number_in.Statement.{statement}
 use Rattle.lent.proofs.number_in.Tie as tie
 
-word_at_requires : tie.Need-word-at-requires
-word_at_requires c κs = omega (arith, words_length c.before.args.state.now)
+word_at_requires : tie.Need-word_at-requires
+word_at_requires c κs = omega (arith, words_length c.args.state.now)
 
 returns : tie.Need-returns
 unfolding instant_number

@@ -14,59 +14,59 @@ use Rattle.lent.proofs.Agents.{awake_in, agents_flags, agents_more}
 use Rattle.lent.proofs.read_agents.Statement.{statement}
 use Rattle.lent.proofs.read_agents.Tie as tie
 
-abbrev invariant-loop : tie.invariant-loop
-invariant-loop state flags₀ k₀ flags k = (k ≤ 32) × (length flags ≡ 1024) × Upto (awake_in state) (32 * k) 1024 flags
+abbrev invariant-loop-k : tie.invariant-loop-k
+invariant-loop-k state flags₀ k₀ flags k = (k ≤ 32) × (length flags ≡ 1024) × Upto (awake_in state) (32 * k) 1024 flags
 
-abbrev decreases-loop : tie.decreases-loop
-decreases-loop state flags₀ k₀ flags k = 32 - k
+abbrev decreases-loop-k : tie.decreases-loop-k
+decreases-loop-k state flags₀ k₀ flags k = 32 - k
 
-loop_holds : tie.Need-loop-init invariant-loop decreases-loop
-loop_holds c = (search rules, refl, upto_none (awake_in c.before.args.state.now) 1024)
+loop_holds : tie.Need-loop-k-init invariant-loop-k decreases-loop-k
+loop_holds c = (search rules, refl, upto_none (awake_in c.args.state.now) 1024)
 
-add_word_at : tie.Need-overflow-add-word-at invariant-loop decreases-loop
+add_word_at : tie.Need-overflow_add-k invariant-loop-k decreases-loop-k
 add_word_at c = search rules
 
-word_at_requires : tie.Need-word-at-requires invariant-loop decreases-loop
-word_at_requires c κs = omega (arith, words_length c.before.before.before.args.state.now)
+word_at_requires : tie.Need-word_at-w-requires invariant-loop-k decreases-loop-k
+word_at_requires c κs = omega (arith, words_length c.args.state.now)
 
-slice_aggregate_spread : tie.Need-slice-aggregate-spread invariant-loop decreases-loop
+slice_aggregate_spread : tie.Need-slice_bounds-spread-end invariant-loop-k decreases-loop-k
 slice_aggregate_spread c = search rules
 
-mul_spread : tie.Need-overflow-mul-spread invariant-loop decreases-loop
+mul_spread : tie.Need-overflow_mul-k invariant-loop-k decreases-loop-k
 mul_spread c = search rules
 
-spread_requires : tie.Need-spread-requires invariant-loop decreases-loop
+spread_requires : tie.Need-spread-requires invariant-loop-k decreases-loop-k
 spread_requires c κs = search rules
 
-add_k : tie.Need-overflow-add-k invariant-loop decreases-loop
+add_k : tie.Need-overflow_add-k-in-loop-k invariant-loop-k decreases-loop-k
 add_k c = search rules
 
-loop_less : tie.Need-loop-smaller invariant-loop decreases-loop
+loop_less : tie.Need-loop-k-smaller invariant-loop-k decreases-loop-k
 loop_less c = search rules
 
-loop_again : tie.Need-loop-preserved invariant-loop decreases-loop
-loop_again c = let s = c.before.before.before.before.before.args.state.now in
-    let b = c.before.before.before.loop in
+loop_again : tie.Need-loop-k-preserved invariant-loop-k decreases-loop-k
+loop_again c = let s = c.args.state.now in
+    let b = c.loop-k in
     let u = b.invariant.2 in
-    let w = c.before.word_at.result in
+    let w = c.word_at-w.result in
     let step : (flags : List Bool) → Spread (32 * b.k) 32 w b.flags flags → (b.k + 1 ≤ 32) × (length flags ≡ 1024) × Upto (awake_in s) (32 * (b.k + 1)) 1024 flags = λ flags p.
-    let v = agents_more s b.k w c.before.word_at.ensures b.flags flags u p in (omega arith, v.long, v) in
+    let v = agents_more s b.k w c.word_at-w.ensures b.flags flags u p in (omega arith, v.long, v) in
     ⊎_elim
-    (λ t. step c.if1.flags (subst⁻¹ (Spread (32 * b.k) 32 w b.flags) t.4 t.2.ensures))
-    (λ t. step c.if1.flags (subst⁻¹ (Spread (32 * b.k) 32 w b.flags) t.1 (spread_zero (awake_in s) (32 * b.k) 1024 32 w b.flags u t.0.left)))
-    c.if1.branch
+    (λ t. step c.if-w-ne0.flags (subst⁻¹ (Spread (32 * b.k) 32 w b.flags) t.flags-is t.spread.ensures))
+    (λ t. step c.if-w-ne0.flags (subst⁻¹ (Spread (32 * b.k) 32 w b.flags) t.flags-is (spread_zero (awake_in s) (32 * b.k) 1024 32 w b.flags u t.if-w-ne0.false)))
+    c.if-w-ne0.branch-raw
 
-returns : tie.Need-returns invariant-loop decreases-loop
-returns c = let s = c.before.before.before.args.state.now in
-    let e : 32 * c.before.loop.k ≡ 1024 = omega arith in
-    agents_flags s c.before.loop.flags (subst (λ m. Upto (awake_in s) m 1024 c.before.loop.flags) e c.before.loop.invariant.2)
+returns : tie.Need-returns invariant-loop-k decreases-loop-k
+returns c = let s = c.args.state.now in
+    let e : 32 * c.loop-k.k ≡ 1024 = omega arith in
+    agents_flags s c.loop-k.flags (subst (λ m. Upto (awake_in s) m 1024 c.loop-k.flags) e c.loop-k.invariant.2)
 
 pub read_agents_spec : {M : Type 1} → statement M
 read_agents_spec =
     tie.close
     (tie.spec
-    invariant-loop
-    decreases-loop
+    invariant-loop-k
+    decreases-loop-k
     loop_holds
     add_word_at
     word_at_requires

@@ -15,17 +15,17 @@ last_word n s t h e =
     let none : drop (4 * 33 + 4) s ≡ [] = drop_of_length-le s {i = 4 * 33 + 4} (omega arith) in
     e ∙ ap (λ l. take unnumbered_bytes s ++ bytes_of (n ∷ []) ++ l) none ∙ append-nil (take unnumbered_bytes s ++ bytes_of (n ∷ []))
 
-put_word_requires : tie.Need-put-word-requires
+put_word_requires : tie.Need-put_word-requires
 put_word_requires c κs = omega arith
 
-same_length : tie.Need-same-length
+same_length : tie.Need-shape_of-state
 same_length c = search rules
 
 returns : tie.Need-returns
 returns c =
     let b = c.before.before.before.before.before in
-    let t = c.before.before.put_word in
-    last_word b.args.number b.args.state.now t.new.0 b.requires t.ensures
+    let t = c.put_word in
+    last_word b.args.number b.args.state.now t.new.bytes b.requires t.ensures
 
 pub write_number_spec : {M : Type 1} → statement M
 write_number_spec = tie.close (tie.spec put_word_requires same_length returns)

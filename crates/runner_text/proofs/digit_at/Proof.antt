@@ -16,26 +16,26 @@ low e i h = rw (lt-ltb e 10 (omega arith), i)
 high : {d : ℕ} (e : ℕ) → d ≡ e → 10 ≤ d → 55 + d ≡ digit e
 high e i h = rw (le-ltb e 10 (omega arith), i)
 
-bits_requires : tie.Need-bits-requires
+bits_requires : tie.Need-bits-d-requires
 bits_requires c κs = search rules
 
-cast_result : tie.Need-overflow-cast-result
+cast_result : tie.Need-overflow_cast-result
 cast_result c = search rules
 
-add_result : tie.Need-overflow-add-result
+add_result : tie.Need-overflow_add-result
 add_result c = search rules
 
-cast_result_2 : tie.Need-overflow-cast-result-2
-cast_result_2 c = omega (arith, c.before.bits.ensures, field_below c.before.before.args.w c.before.before.args.lowest 4)
+cast_result_2 : tie.Need-overflow_cast-result-else-d-lt10
+cast_result_2 c = omega (arith, c.bits-d.ensures, field_below c.args.w c.args.lowest 4)
 
-add_result_2 : tie.Need-overflow-add-result-2
-add_result_2 c = omega (arith, c.before.bits.ensures, field_below c.before.before.args.w c.before.before.args.lowest 4)
+add_result_2 : tie.Need-overflow_add-result-else-d-lt10
+add_result_2 c = omega (arith, c.bits-d.ensures, field_below c.args.w c.args.lowest 4)
 
-returns : tie.Need-returns
-returns c = low _ c.before.bits.ensures c.if1.true
+returns : tie.Need-returns-then-d-lt10
+returns c = low _ c.bits-d.ensures c.if-d-lt10.true
 
-returns_2 : tie.Need-returns-2
-returns_2 c = high _ c.before.bits.ensures (omega (arith, c.if1.false))
+returns_2 : tie.Need-returns-else-d-lt10
+returns_2 c = high _ c.bits-d.ensures (omega (arith, c.if-d-lt10.false))
 
 pub digit_at_spec : {M : Type 1} → statement M
 digit_at_spec =

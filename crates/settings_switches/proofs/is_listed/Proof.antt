@@ -10,42 +10,42 @@ use Rattle.settings_switches.proofs.Listed.{listed_more, listed_all}
 use Rattle.settings_switches.proofs.is_listed.Statement.{statement}
 use Rattle.settings_switches.proofs.is_listed.Tie as tie
 
-abbrev invariant-loop : tie.invariant-loop
-invariant-loop switches token found₀ i₀ found i = has token switches ≡ (found || has token (drop i switches))
+abbrev invariant-loop-i : tie.invariant-loop-i
+invariant-loop-i switches token found₀ i₀ found i = has token switches ≡ (found || has token (drop i switches))
 
-abbrev decreases-loop : tie.decreases-loop
-decreases-loop switches token found₀ i₀ found i = length switches - i
+abbrev decreases-loop-i : tie.decreases-loop-i
+decreases-loop-i switches token found₀ i₀ found i = length switches - i
 
-loop_holds : tie.Need-loop-init invariant-loop decreases-loop
+loop_holds : tie.Need-loop-i-init invariant-loop-i decreases-loop-i
 loop_holds c = refl
 
-shared_slice_read_found : tie.Need-shared-slice-read-found invariant-loop decreases-loop
+shared_slice_read_found : tie.Need-bounds-switches-i invariant-loop-i decreases-loop-i
 shared_slice_read_found c = search rules
 
-add_i : tie.Need-overflow-add-i invariant-loop decreases-loop
+add_i : tie.Need-overflow_add-i invariant-loop-i decreases-loop-i
 add_i c = search rules
 
-loop_less : tie.Need-loop-smaller invariant-loop decreases-loop
+loop_less : tie.Need-loop-i-smaller invariant-loop-i decreases-loop-i
 loop_less c = search rules
 
-loop_again : tie.Need-loop-preserved invariant-loop decreases-loop
+loop_again : tie.Need-loop-i-preserved invariant-loop-i decreases-loop-i
 loop_again c =
     let b = c.before.before.before in
-    let l = c.before.before.loop in
+    let l = c.loop-i in
     listed_more b.args.switches.now b.args.token l.found l.i l.invariant (omega arith)
 
-returns : tie.Need-returns invariant-loop decreases-loop
+returns : tie.Need-returns invariant-loop-i decreases-loop-i
 returns c =
     let b = c.before.before in
-    let l = c.before.loop in
+    let l = c.loop-i in
     listed_all b.args.switches.now b.args.token l.found l.i l.invariant (omega arith)
 
 pub is_listed_spec : {M : Type 1} → statement M
 is_listed_spec =
     tie.close
     (tie.spec
-    invariant-loop
-    decreases-loop
+    invariant-loop-i
+    decreases-loop-i
     loop_holds
     shared_slice_read_found
     add_i

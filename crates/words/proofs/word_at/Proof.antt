@@ -9,28 +9,28 @@ use Rattle.words.proofs.Words.{words_room, word_joined}
 use Rattle.words.proofs.word_at.Statement.{statement}
 use Rattle.words.proofs.word_at.Tie as tie
 
-mul_at : tie.Need-overflow-mul-at
+mul_at : tie.Need-overflow_mul-at
 mul_at c = omega (arith, words_room c.before.args.s.now c.before.args.i c.before.requires)
 
-shared_slice_read_join : tie.Need-shared-slice-read-join
+shared_slice_read_join : tie.Need-bounds-s-at
 shared_slice_read_join c = omega (arith, words_room c.before.before.args.s.now c.before.before.args.i c.before.before.requires)
 
-add_join : tie.Need-overflow-add-join
+add_join : tie.Need-overflow_add-at
 add_join c = omega (arith, words_room c.before.before.args.s.now c.before.before.args.i c.before.before.requires)
 
-shared_slice_read_join_2 : tie.Need-shared-slice-read-join-2
+shared_slice_read_join_2 : tie.Need-bounds-s-at-2
 shared_slice_read_join_2 c = omega (arith, words_room c.before.before.before.args.s.now c.before.before.before.args.i c.before.before.before.requires)
 
-add_join_2 : tie.Need-overflow-add-join-2
+add_join_2 : tie.Need-overflow_add-at-2
 add_join_2 c = omega (arith, words_room c.before.before.before.args.s.now c.before.before.before.args.i c.before.before.before.requires)
 
-shared_slice_read_join_3 : tie.Need-shared-slice-read-join-3
+shared_slice_read_join_3 : tie.Need-bounds-s-at-3
 shared_slice_read_join_3 c = omega (arith, words_room c.before.before.before.before.args.s.now c.before.before.before.before.args.i c.before.before.before.before.requires)
 
-add_join_3 : tie.Need-overflow-add-join-3
+add_join_3 : tie.Need-overflow_add-at-3
 add_join_3 c = omega (arith, words_room c.before.before.before.before.args.s.now c.before.before.before.before.args.i c.before.before.before.before.requires)
 
-shared_slice_read_join_4 : tie.Need-shared-slice-read-join-4
+shared_slice_read_join_4 : tie.Need-bounds-s-at-4
 shared_slice_read_join_4 c = omega (arith, words_room c.before.before.before.before.before.args.s.now c.before.before.before.before.before.args.i c.before.before.before.before.before.requires)
 
 join_requires : tie.Need-join-requires

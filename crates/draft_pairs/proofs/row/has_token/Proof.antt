@@ -5,21 +5,21 @@ use Rattle.draft_pairs.proofs.Rows.{digits, row_holds}
 use Rattle.draft_pairs.proofs.row.has_token.Statement.{statement}
 use Rattle.draft_pairs.proofs.row.has_token.Tie as tie
 
-sub_part : tie.Need-overflow-sub-part
+sub_part : tie.Need-overflow_sub-part
 sub_part c = search rules
 
-mul_part : tie.Need-overflow-mul-part
+mul_part : tie.Need-offset_bounds-row-token
 mul_part c = search rules
 
-array_read_part : tie.Need-array-read-part
+array_read_part : tie.Need-bounds-row-token
 array_read_part c = search rules
 
-shr_result : tie.Need-overflow-shr-result
+shr_result : tie.Need-overflow_shr-result
 shr_result c = search rules
 
 returns : tie.Need-returns
 unfolding holds
-returns c = row_holds (digits c.well-formed.0) c.args.token c.requires
+returns c = row_holds (digits c.well_formed.0) c.args.token c.requires
 
 pub has_token_spec : {M : Type 1} → statement M
 has_token_spec = tie.close (tie.spec sub_part mul_part array_read_part shr_result returns)

@@ -4,11 +4,11 @@ use Rattle.draft_pairs.proofs.Rows.{digits, row_renumbered}
 use Rattle.draft_pairs.proofs.row.renumbered.Statement.{statement}
 use Rattle.draft_pairs.proofs.row.renumbered.Tie as tie
 
-array_write_result : tie.Need-array-write-result
+array_write_result : tie.Need-bounds-result-0
 array_write_result c = search rules
 
 returns : tie.Need-returns
-returns c = row_renumbered (digits c.well-formed.0) c.args.number
+returns c = row_renumbered (digits c.well_formed.0) c.args.number
 
 pub renumbered_spec : {M : Type 1} → statement M
 renumbered_spec = tie.close (tie.spec array_write_result returns)

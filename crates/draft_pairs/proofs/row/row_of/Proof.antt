@@ -4,7 +4,7 @@ use Rattle.draft_pairs.proofs.Rows.{row_alone}
 use Rattle.draft_pairs.proofs.row.row_of.Statement.{statement}
 use Rattle.draft_pairs.proofs.row.row_of.Tie as tie
 
-array_write_row : tie.Need-array-write-row
+array_write_row : tie.Need-bounds-row-0
 array_write_row c = search rules
 
 returns : tie.Need-returns
