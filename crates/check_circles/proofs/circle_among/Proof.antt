@@ -13,38 +13,38 @@ use Rattle.check_circles.proofs.circle_among.Statement.{statement}
 use Rattle.check_circles.proofs.circle_among.Tie as tie
 
 -- Stations of the walk, each from a later place.
-abbrev to_start : tie.After-calls-any-arg → tie.Start
-to_start c = c.before.before.before.before.before.before.before
+abbrev to_start : tie.After-slice_known-2-1 → tie.Start
+to_start c = c.before.before.before.before.before.before
 
 gather_requires : tie.Need-gather-requires
-gather_requires c κs = let b = c.before.before.before in (ap (λ h. h.agents) b.requires.0, (b.requires.1.0, b.requires.1.1))
+gather_requires c κs = let b = c in (ap (λ h. h.agents) b.requires.0, (b.requires.1.0, b.requires.1.1))
 
-calls_any_requires : tie.Need-calls-any-requires
+calls_any_requires : tie.Need-calls_any-requires
 calls_any_requires c κs =
     let b = to_start c in
-    let g = c.before.before.before.gather in
-    (ap (λ h. h.agents) b.pre.0, (ap (λ h. h.procedures) b.pre.0, (b.pre.1.0, (g.ensures, omega (arith, g.auto.1.1.0, b.pre.1.1)))))
+    let g = c.gather in
+    (ap (λ h. h.agents) b.requires.0, (ap (λ h. h.procedures) b.requires.0, (b.requires.1.0, (g.ensures, omega (arith, g.auto.sets, b.requires.1.1)))))
 
-same_length : tie.Need-same-length
+same_length : tie.Need-shape_of-sets-then-not-calls_any
 same_length c = search rules
 
-returns : tie.Need-returns
+returns : tie.Need-returns-then-not-calls_any
 returns c =
     let b = to_start c.before.before in
     let s = b.args.s.now in
-    let n : length (decode s).roots ≡ b.args.head.procedures = decode_roots s b.pre.1.0.enough ∙ sym (ap (λ h. h.procedures) b.pre.0) in
-    subst (LowestCircular (decode s)) n (none_circular (decode s) (calls_known s b.pre.1.0) (λ call. false≢true (sym (not-true _ c.if1.true) ∙ c.before.calls-any.ensures.1 call)))
+    let n : length (decode s).roots ≡ b.args.head.procedures = decode_roots s b.requires.1.0.enough ∙ sym (ap (λ h. h.procedures) b.requires.0) in
+    subst (LowestCircular (decode s)) n (none_circular (decode s) (calls_known s b.requires.1.0) (λ call. false≢true (sym (not-true _ c.if-not-calls_any.true-raw) ∙ c.calls_any.ensures.1 call)))
 
-circle_in_rows_requires : tie.Need-circle-in-rows-requires
+circle_in_rows_requires : tie.Need-circle_in_rows-requires
 circle_in_rows_requires c κs =
-    let b = to_start c.before.before.before in
-    let g = c.before.before.before.before.before.before.gather in
-    (ap (λ h. h.agents) b.pre.0, (ap (λ h. h.procedures) b.pre.0, (b.pre.1.0, (g.ensures, omega (arith, g.auto.1.1.0, b.pre.1.1)))))
+    let b = to_start c.before.before in
+    let g = c.gather in
+    (ap (λ h. h.agents) b.requires.0, (ap (λ h. h.procedures) b.requires.0, (b.requires.1.0, (g.ensures, omega (arith, g.auto.sets, b.requires.1.1)))))
 
-same_length_2 : tie.Need-same-length-2
+same_length_2 : tie.Need-shape_of-sets
 same_length_2 c = search rules
 
-returns_2 : tie.Need-returns-2
+returns_2 : tie.Need-returns
 returns_2 c = search rules
 
 pub circle_among_spec : {M : Type 1} → statement M

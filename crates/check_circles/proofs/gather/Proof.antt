@@ -17,66 +17,66 @@ use Rattle.check_calls.proofs.Leads.{leads_exact}
 use Rattle.check_circles.proofs.gather.Statement.{statement}
 use Rattle.check_circles.proofs.gather.Tie as tie
 
-abbrev invariant-loop : tie.invariant-loop
-invariant-loop s agents sets₀ i₀ sets i = (length sets ≡ length sets₀) × (i ≤ agents) × ((j : ℕ) → j < i → (q : ℕ) → q < 64 → Exactly (in_set (get_or sets j 0) q) (Leads (decode s) j q))
+abbrev invariant-loop-i : tie.invariant-loop-i
+invariant-loop-i s agents sets₀ i₀ sets i = (length sets ≡ length sets₀) × (i ≤ agents) × ((j : ℕ) → j < i → (q : ℕ) → q < 64 → Exactly (in_set (get_or sets j 0) q) (Leads (decode s) j q))
 
-abbrev decreases-loop : tie.decreases-loop
-decreases-loop s agents sets₀ i₀ sets i = agents - i
+abbrev decreases-loop-i : tie.decreases-loop-i
+decreases-loop-i s agents sets₀ i₀ sets i = agents - i
 
-loop_holds : tie.Need-loop-init invariant-loop decreases-loop
+loop_holds : tie.Need-loop-i-init invariant-loop-i decreases-loop-i
 loop_holds c = (refl, search rules, λ j h. absurd (not-suc-le-zero h))
 
-agent_at_requires : tie.Need-agent-at-requires invariant-loop decreases-loop
-agent_at_requires c κs = omega (arith, c.before.before.before.before.requires.1.0.enough)
+agent_at_requires : tie.Need-agent_at-requires invariant-loop-i decreases-loop-i
+agent_at_requires c κs = omega (arith, c.requires.1.0.enough)
 
-leads_to_requires : tie.Need-leads-to-requires invariant-loop decreases-loop
+leads_to_requires : tie.Need-leads_to-requires invariant-loop-i decreases-loop-i
 leads_to_requires c κs =
-    let b = c.before.before.before.before.before.before in
+    let b = c in
     let s = b.args.s.now in
-    let i = c.before.before.before.loop.i in (
-      λ n m. let lt : n < i = parts_lower s b.requires.1.0 i n (subst (λ a. Memᴰ n (parts_of a)) c.before.agent_at_lem.ensures m) in omega (arith, b.requires),
-      λ n m. let lt = procedures_known s b.requires.1.0 i n (subst (λ a. Memᴰ n (procedures_of a)) c.before.agent_at_lem.ensures m) in omega (arith, sizes_few s),
+    let i = c.loop-i.i in (
+      λ n m. let lt : n < i = parts_lower s b.requires.1.0 i n (subst (λ a. Memᴰ n (parts_of a)) c.agent_at.ensures m) in omega (arith, b.requires),
+      λ n m. let lt = procedures_known s b.requires.1.0 i n (subst (λ a. Memᴰ n (procedures_of a)) c.agent_at.ensures m) in omega (arith, sizes_few s),
     )
 
-mul_sets : tie.Need-overflow-mul-sets invariant-loop decreases-loop
-mul_sets c = omega (arith, sizes_few c.before.before.before.before.before.before.before.args.s.now)
+mul_sets : tie.Need-offset_bounds-sets-i invariant-loop-i decreases-loop-i
+mul_sets c = omega (arith, sizes_few c.args.s.now)
 
-slice_write_sets : tie.Need-slice-write-sets invariant-loop decreases-loop
-slice_write_sets c = omega (arith, c.before.before.before.before.before.before.before.requires)
+slice_write_sets : tie.Need-bounds-sets-i invariant-loop-i decreases-loop-i
+slice_write_sets c = omega (arith, c.requires)
 
-add_i : tie.Need-overflow-add-i invariant-loop decreases-loop
+add_i : tie.Need-overflow_add-i invariant-loop-i decreases-loop-i
 add_i c = search rules
 
-loop_less : tie.Need-loop-smaller invariant-loop decreases-loop
+loop_less : tie.Need-loop-i-smaller invariant-loop-i decreases-loop-i
 loop_less c = search rules
 
-loop_again : tie.Need-loop-preserved invariant-loop decreases-loop
+loop_again : tie.Need-loop-i-preserved invariant-loop-i decreases-loop-i
 loop_again c =
-    let b = c.before.before.before.before.before.before.before in
+    let b = c in
     let s = b.args.s.now in
-    let sets = c.before.before.before.before.loop.sets in
-    let i = c.before.before.before.before.loop.i in
-    let h = c.before.before.before.before.loop.invariant in (
+    let sets = c.loop-i.sets in
+    let i = c.loop-i.i in
+    let h = c.loop-i.invariant in (
       length-set sets i _ ∙ h.0,
       omega arith,
       filled_more (λ j v. (q : ℕ) → q < 64 → Exactly (in_set v q) (Leads (decode s) j q)) sets i _ 0 (slice_write_sets c) h.2
           (λ q lt.
-          subst⁻¹ (λ t. Exactly t (Leads (decode s) i q)) (c.leads-to.ensures q lt ∙ ap (λ a. leads_by a sets q) c.before.before.agent_at_lem.ensures)
+          subst⁻¹ (λ t. Exactly t (Leads (decode s) i q)) (c.leads_to.ensures q lt ∙ ap (λ a. leads_by a sets q) c.agent_at.ensures)
           (leads_exact (decode s) i q sets (λ n m. h.2 n (parts_lower s b.requires.1.0 i n m) q lt))),
     )
 
-same_length : tie.Need-same-length invariant-loop decreases-loop
-same_length c = c.before.loop.invariant.0
+same_length : tie.Need-shape_of-sets invariant-loop-i decreases-loop-i
+same_length c = c.loop-i.invariant.0
 
-returns : tie.Need-returns invariant-loop decreases-loop
-returns c = record { exact = λ i q lt le. c.before.loop.invariant.2 i (omega arith) q le }
+returns : tie.Need-returns invariant-loop-i decreases-loop-i
+returns c = record { exact = λ i q lt le. c.loop-i.invariant.2 i (omega arith) q le }
 
 pub gather_spec : {M : Type 1} → statement M
 gather_spec =
     tie.close
     (tie.spec
-    invariant-loop
-    decreases-loop
+    invariant-loop-i
+    decreases-loop-i
     loop_holds
     agent_at_requires
     leads_to_requires

@@ -24,105 +24,105 @@ comes : (held : List ℕ) (awake : List Bool) {agent read : Agent} → agent ≡
     (fate ≡ fate_of held agent) × (flagged bodies awake ≡ flagged (leaves held agent) awake)
 comes held awake e fate bodies p q = (p ∙ ap (fate_of held) (sym e), ap (λ l. flagged l awake) (q ∙ ap (leaves held) (sym e)))
 
-agent_at_requires : tie.Need-agent-at-requires
+agent_at_requires : tie.Need-agent_at-requires
 agent_at_requires c κs =
-    let b = c.before in
+    let b = c in
     (omega (arith, b.requires.0.whole), b.requires.1.0)
 
-enum_told : tie.Need-enum-told
+enum_told : tie.Need-enum_told-1
 enum_told c = search rules
 
-enum_known_awaited : tie.Need-enum-known-awaited
+enum_known_awaited : tie.Need-enum_known-awaited
 enum_known_awaited c = search rules
 
-element_copy_out_if1 : tie.Need-element-copy-out-if1
+element_copy_out_if1 : tie.Need-bounds-held-awaited
 element_copy_out_if1 c =
-    let a = c.before.before.before in
-    let b = a.before.before in
-    token_few b.requires.0 b.args.i (sym a.agent_at_lem.ensures ∙ c.before.awaited.given.1) (Memᴰ.head refl)
+    let a = c in
+    let b = a in
+    token_few b.requires.0 b.args.i (sym a.agent_at.ensures ∙ c.in-When.is) (Memᴰ.head refl)
 
-returns : tie.Need-returns
+returns : tie.Need-returns-then-held-awaited
 returns c =
-    let a = c.before.before.before.before.before in
-    let b = a.before.before.args in
+    let a = c in
+    let b = a.args in
     let held = b.held.now in
-    let token = c.before.before.before.awaited.given in
-    let taken : get_or held token.0.0 false ≡ true = c.if1.true in
-    comes (set_of held) b.awake.now (sym a.agent_at_lem.ensures ∙ token.1) Reduced [] (ap (λ x. cond x Reduced Stays) (sym taken ∙ flag_has held token.0.0)) refl
+    let token = c.in-When in
+    let taken : get_or held token.awaited false ≡ true = c.if-held-awaited.true in
+    comes (set_of held) b.awake.now (sym a.agent_at.ensures ∙ token.is) Reduced [] (ap (λ x. cond x Reduced Stays) (sym taken ∙ flag_has held token.awaited)) refl
 
-enum_known_body : tie.Need-enum-known-body
+enum_known_body : tie.Need-enum_known-body
 enum_known_body c = search rules
 
-element_write_awake : tie.Need-element-write-awake
+element_write_awake : tie.Need-bounds-awake-body
 element_write_awake c =
-    let a = c.before.before.before in
-    let b = a.before.before in
-    omega (arith, part_lower b.requires.0.lawful b.args.i c.before.body.given.0.0 (sym a.agent_at_lem.ensures ∙ c.before.body.given.1) (Memᴰ.head refl), agents_few b.requires.0 refl)
+    let a = c in
+    let b = a in
+    omega (arith, part_lower b.requires.0.lawful b.args.i c.in-Next.body (sym a.agent_at.ensures ∙ c.in-Next.is) (Memᴰ.head refl), agents_few b.requires.0 refl)
 
-enum_known_token : tie.Need-enum-known-token
+enum_known_token : tie.Need-enum_known-token
 enum_known_token c = search rules
 
-element_copy_out_if2 : tie.Need-element-copy-out-if2
+element_copy_out_if2 : tie.Need-bounds-held-token
 element_copy_out_if2 c =
-    let a = c.before.before.before in
-    let b = a.before.before in
-    token_few b.requires.0 b.args.i (sym a.agent_at_lem.ensures ∙ c.before.token.given.1) (Memᴰ.head refl)
+    let a = c in
+    let b = a in
+    token_few b.requires.0 b.args.i (sym a.agent_at.ensures ∙ c.in-Unless.is) (Memᴰ.head refl)
 
-returns_2 : tie.Need-returns-2
+returns_2 : tie.Need-returns-then-held-token
 returns_2 c =
-    let a = c.before.before.before.before.before in
-    let b = a.before.before.args in
+    let a = c in
+    let b = a.args in
     let held = b.held.now in
-    let token = c.before.before.before.token.given in
-    let taken : get_or held token.0.0 false ≡ true = c.if2.true in
-    let f = sym taken ∙ flag_has held token.0.0 in
-    comes (set_of held) b.awake.now (sym a.agent_at_lem.ensures ∙ token.1) Reduced [] (ap (λ x. cond x Reduced Stays) f) (ap (λ x. cond x [] (token.0.1.0 ∷ [])) f)
+    let token = c.in-Unless in
+    let taken : get_or held token.token false ≡ true = c.if-held-token.true in
+    let f = sym taken ∙ flag_has held token.token in
+    comes (set_of held) b.awake.now (sym a.agent_at.ensures ∙ token.is) Reduced [] (ap (λ x. cond x Reduced Stays) f) (ap (λ x. cond x [] (token.next ∷ [])) f)
 
-element_write_awake_2 : tie.Need-element-write-awake-2
+element_write_awake_2 : tie.Need-bounds-awake-next
 element_write_awake_2 c =
-    let a = c.before.before.before.before.before in
-    let b = a.before.before in
-    let token = c.before.before.before.token.given in
-    omega (arith, part_lower b.requires.0.lawful b.args.i token.0.1.0 (sym a.agent_at_lem.ensures ∙ token.1) (Memᴰ.head refl), agents_few b.requires.0 refl)
+    let a = c in
+    let b = a in
+    let token = c.in-Unless in
+    omega (arith, part_lower b.requires.0.lawful b.args.i token.next (sym a.agent_at.ensures ∙ token.is) (Memᴰ.head refl), agents_few b.requires.0 refl)
 
-returns_3 : tie.Need-returns-3
+returns_3 : tie.Need-returns-in-Abort
 returns_3 c =
-    let a = c.before.before in
-    let b = a.before.before.args in
-    comes (set_of b.held.now) b.awake.now (sym a.agent_at_lem.ensures ∙ c.enum_told.given.1) _ [] refl refl
+    let a = c in
+    let b = a.args in
+    comes (set_of b.held.now) b.awake.now (sym a.agent_at.ensures ∙ c.in-Abort.is) _ [] refl refl
 
-returns_4 : tie.Need-returns-4
+returns_4 : tie.Need-returns-else-held-awaited
 returns_4 c =
-    let a = c.before.before.before.before.before in
-    let b = a.before.before.args in
+    let a = c in
+    let b = a.args in
     let held = b.held.now in
-    let token = c.before.before.before.awaited.given in
-    let left : get_or held token.0.0 false ≡ false = c.if1.false in
-    comes (set_of held) b.awake.now (sym a.agent_at_lem.ensures ∙ token.1) Stays [] (ap (λ x. cond x Reduced Stays) (sym left ∙ flag_has held token.0.0)) refl
+    let token = c.in-When in
+    let left : get_or held token.awaited false ≡ false = c.if-held-awaited.false in
+    comes (set_of held) b.awake.now (sym a.agent_at.ensures ∙ token.is) Stays [] (ap (λ x. cond x Reduced Stays) (sym left ∙ flag_has held token.awaited)) refl
 
-returns_5 : tie.Need-returns-5
+returns_5 : tie.Need-returns-in-Next
 returns_5 c =
-    let a = c.before.before.before in
-    let b = a.before.before.args in
-    comes (set_of b.held.now) b.awake.now (sym a.agent_at_lem.ensures ∙ c.before.body.given.1) Stays (c.before.body.given.0.0 ∷ []) refl refl
+    let a = c in
+    let b = a.args in
+    comes (set_of b.held.now) b.awake.now (sym a.agent_at.ensures ∙ c.in-Next.is) Stays (c.in-Next.body ∷ []) refl refl
 
-returns_6 : tie.Need-returns-6
+returns_6 : tie.Need-returns-else-held-token
 returns_6 c =
-    let a = c.before.before.before.before.before in
-    let b = a.before.before.args in
+    let a = c in
+    let b = a.args in
     let held = b.held.now in
-    let token = c.before.before.before.token.given in
-    let left : get_or held token.0.0 false ≡ false = c.if2.false in
-    let f = sym left ∙ flag_has held token.0.0 in
-    comes (set_of held) b.awake.now (sym a.agent_at_lem.ensures ∙ token.1) Stays (token.0.1.0 ∷ []) (ap (λ x. cond x Reduced Stays) f) (ap (λ x. cond x [] (token.0.1.0 ∷ [])) f)
+    let token = c.in-Unless in
+    let left : get_or held token.token false ≡ false = c.if-held-token.false in
+    let f = sym left ∙ flag_has held token.token in
+    comes (set_of held) b.awake.now (sym a.agent_at.ensures ∙ token.is) Stays (token.next ∷ []) (ap (λ x. cond x Reduced Stays) f) (ap (λ x. cond x [] (token.next ∷ [])) f)
 
-returns_7 : tie.Need-returns-7
+returns_7 : tie.Need-returns-in_default
 returns_7 c =
-    let a = c.before in
-    let b = a.before.before.args in
+    let a = c in
+    let b = a.args in
     let held = b.held.now in
-    let g = spent (set_of held) a.agent_at_lem.result c.match.keys5 in
-    comes (set_of held) b.awake.now (sym a.agent_at_lem.ensures) Reduced [] g.fate (sym g.bare)
+    let g = spent (set_of held) a.agent_at.result c.in_default.in_default-own.keys5 in
+    comes (set_of held) b.awake.now (sym a.agent_at.ensures) Reduced [] g.fate (sym g.bare)
 
 pub fate_of_spec : {M : Type 1} → statement M
 fate_of_spec =
