@@ -12,7 +12,7 @@ use Rattle.draft_language.specs.Order.{Copy, Item, copy, input, Pick, here, ther
 use Rattle.draft_language.specs.StoppedAct.{StoppedAct}
 use Rattle.draft_language.proofs.Awake.{some_watched, on_awake}
 
-stopped : (d : Draft) (s : List ℕ) {l k : List Item} (i : ℕ) (set : List ℕ) (t : ℕ) → Pick (copy i set) l k → Memᴰ t set → Memᴰ t s → awake_next d s l ≡ awake_next d s k
+stopped : (d : Draft) (s : List ℕ) (i : ℕ) (set : List ℕ) (t : ℕ) {l k : List Item} → Pick (copy i set) l k → Memᴰ t set → Memᴰ t s → awake_next d s l ≡ awake_next d s k
 stopped d s i set t here at held = rw (some_watched at held)
 stopped d s i set t (there {y = copy j under} p) at held = ap (λ woken. cond (watched s under) [] (wakes under (draft_agent_at d j)) ++ woken) (stopped d s i set t p at held)
 stopped d s i set t (there {y = input u} p) at held = stopped d s i set t p at held
