@@ -17,7 +17,7 @@ PROGRAM = build/tool/release/score
 # Where make install puts things: include/, lib/, lib/pkgconfig/, bin/ and share/ in it. DESTDIR is put before it.
 PREFIX = /usr/local
 prefix = $(abspath $(PREFIX))
-VERSION = 4.2.0
+VERSION = 4.1.0
 
 # A library made of an engine that is written by hand, passes or linear, for trying the tests.
 ENGINE = linear
@@ -87,12 +87,12 @@ standin:
 
 library:
 ifndef SCORE_LIBRARY_DIR
-	@.ci/progress staticlib score
+	rt staticlib score
 endif
 
 runner:
 ifndef SCORE_LIBRARY_DIR
-	@.ci/progress check runner
+	rt check runner
 endif
 
 tool: library

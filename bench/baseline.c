@@ -4,7 +4,7 @@
  * are known, as a set of procedures, when the agent is reached. The closure runs over the P procedures alone.
  */
 #include "baseline.h"
-#include "fault.h"
+#include "score.h"
 #include "words.h"
 
 static uint64_t refusal(uint32_t number, size_t value)
@@ -21,17 +21,11 @@ static int is_form(uint32_t word, uint32_t kind, unsigned width)
 static uint32_t ports_fault(uint32_t word, uint32_t tokens)
 {
     uint32_t lowest = word & 0xFF, highest = word >> 8 & 0xFF;
-    if (!is_form(word, SCORE_KIND_PORTS, 16))
+    if (!is_form(word, PORTS, 16))
         return SCORE_FORM;
-    if (lowest >= tokens || highest >= tokens + FAULT(PORT_AT_T))
+    if (lowest >= tokens || highest >= tokens)
         return SCORE_TOKEN;
-    return lowest > highest && !FAULT(PORTS_FALL) ? SCORE_REFERENCE : SCORE_ACCEPTED;
-}
-
-static int is_guard(uint32_t kind)
-{
-    return kind == SCORE_KIND_UNLESS || (kind == SCORE_KIND_WHEN && FAULT(WHEN_GUARDS))
-        || (kind == SCORE_KIND_WATCH && FAULT(WATCH_GUARDS));
+    return lowest > highest ? SCORE_REFERENCE : SCORE_ACCEPTED;
 }
 
 /* Sets calls[agent] to the procedures that the agent calls unguarded. In a draft, a watch is tested like a when. */
@@ -40,42 +34,42 @@ static inline uint32_t agent_fault(uint32_t word, uint32_t agent, uint32_t token
 {
     uint32_t body = word & 0x3FF;
     calls[agent] = 0;
-    switch (SCORE_KIND(word)) {
-    case SCORE_KIND_SKIP_ABORT:
-        return is_form(word, SCORE_KIND_SKIP_ABORT, 1) ? SCORE_ACCEPTED : SCORE_FORM;
-    case SCORE_KIND_TELL:
-        if (!is_form(word, SCORE_KIND_TELL, 8 + FAULT(TELL_BITS)))
+    switch (word >> 28) {
+    case SKIP_ABORT:
+        return is_form(word, SKIP_ABORT, 1) ? SCORE_ACCEPTED : SCORE_FORM;
+    case TELL:
+        if (!is_form(word, TELL, 8))
             return SCORE_FORM;
         return (word & 0xFF) < tokens ? SCORE_ACCEPTED : SCORE_TOKEN;
-    case SCORE_KIND_PARALLEL: {
+    case PARALLEL: {
         uint32_t other = word >> 10 & 0x3FF;
-        if (!is_form(word, SCORE_KIND_PARALLEL, 20))
+        if (!is_form(word, PARALLEL, 20))
             return SCORE_FORM;
         if (body >= agent || other >= agent)
             return SCORE_REFERENCE;
         calls[agent] = calls[body] | calls[other];
         return SCORE_ACCEPTED;
     }
-    case SCORE_KIND_WATCH:
-        if (!is_draft && !FAULT(WATCH_EVERYWHERE))
+    case WATCH:
+        if (!is_draft)
             return SCORE_FORM; /* fall through */
-    case SCORE_KIND_WHEN:
-    case SCORE_KIND_UNLESS:
+    case WHEN:
+    case UNLESS:
         if (word >> 18 & 0x3FF)
             return SCORE_FORM;
         if ((word >> 10 & 0xFF) >= tokens)
             return SCORE_TOKEN;
-        if (body >= agent + FAULT(OWN_BODY))
+        if (body >= agent)
             return SCORE_REFERENCE;
-        if (!is_guard(SCORE_KIND(word)))
+        if (word >> 28 != UNLESS)
             calls[agent] = calls[body];
         return SCORE_ACCEPTED;
-    case SCORE_KIND_NEXT:
-        if (!is_form(word, SCORE_KIND_NEXT, 10))
+    case NEXT:
+        if (!is_form(word, NEXT, 10))
             return SCORE_FORM;
         return body < agent ? SCORE_ACCEPTED : SCORE_REFERENCE;
-    case SCORE_KIND_CALL:
-        if (!is_form(word, SCORE_KIND_CALL, 6))
+    case CALL:
+        if (!is_form(word, CALL, 6))
             return SCORE_FORM;
         if ((word & 0x3F) >= procedures)
             return SCORE_REFERENCE;
@@ -89,15 +83,14 @@ static inline uint32_t agent_fault(uint32_t word, uint32_t agent, uint32_t token
 /* The bits 26..8 of a fact are zero. */
 static uint32_t fact_fault(uint32_t word, uint32_t tokens)
 {
-    uint32_t zeros = FAULT(FACT_PREMISES) ? 0x70000 : FAULT(FACT_UNNAMED) ? 0xFFFF : 0x7FFFF;
-    if (!is_fact(word) || word >> 8 & zeros || FAULT(FACT_REFUSED))
+    if (!is_fact(word) || word >> 8 & 0x7FFFF)
         return SCORE_FORM;
-    return (word & 0xFF) < tokens || FAULT(FACT_AT_T) ? SCORE_ACCEPTED : SCORE_TOKEN;
+    return (word & 0xFF) < tokens ? SCORE_ACCEPTED : SCORE_TOKEN;
 }
 
 static uint32_t rule_fault(uint32_t word, uint32_t tokens)
 {
-    if (!is_form(word, SCORE_KIND_RULE, 24))
+    if (!is_form(word, RULE, 24))
         return fact_fault(word, tokens);
     if ((word & 0xFF) >= tokens || (word >> 8 & 0xFF) >= tokens || (word >> 16 & 0xFF) >= tokens)
         return SCORE_TOKEN;
@@ -108,7 +101,7 @@ static uint32_t rule_fault(uint32_t word, uint32_t tokens)
 static uint32_t lowest_on_circle(uint64_t *reach, uint32_t procedures)
 {
     uint32_t from, through;
-    for (through = 0; through < procedures && !FAULT(DIRECT_CIRCLES); through++) {
+    for (through = 0; through < procedures; through++) {
         uint64_t onward = reach[through];
         for (from = 0; from < procedures; from++)
             reach[from] |= -(reach[from] >> through & 1) & onward;
@@ -121,19 +114,19 @@ static uint32_t lowest_on_circle(uint64_t *reach, uint32_t procedures)
 
 static inline uint64_t check(const uint8_t *score, size_t score_len, int is_draft)
 {
-    uint64_t calls[SCORE_MAX_AGENTS], reach[SCORE_MAX_PROCEDURES];
+    uint64_t calls[AGENTS_MAX], reach[PROCEDURES_MAX];
     uint32_t head, tokens, agents, procedures, fault, i;
     size_t word, words = score_len / 4;
 
     if (score_len == 0 || score_len % 4 != 0 || score_len > SCORE_MAX_BYTES)
         return refusal(SCORE_LENGTH, 0);
     head = word_at(score, 0);
-    if (!is_form(head, SCORE_KIND_HEAD, 24))
+    if (!is_form(head, HEAD, 24))
         return refusal(SCORE_HEAD, 0);
     tokens = (head & 0xFF) + 1;
     agents = (head >> 8 & 0x3FF) + 1;
     procedures = (head >> 18 & 0x3F) + 1;
-    if (words < 2 + agents + procedures || words > 2 + agents + procedures + SCORE_MAX_RULES)
+    if (words < 2 + agents + procedures || words > 2 + agents + procedures + RULES_MAX)
         return refusal(SCORE_COUNT, 0);
 
     fault = ports_fault(word_at(score, 1), tokens);
@@ -147,7 +140,7 @@ static inline uint64_t check(const uint8_t *score, size_t score_len, int is_draf
     }
     for (i = 0; i < procedures; i++, word++) {
         uint32_t root = word_at(score, word) & 0x3FF;
-        if (!is_form(word_at(score, word), SCORE_KIND_PROCEDURE, 10))
+        if (!is_form(word_at(score, word), PROCEDURE, 10))
             return refusal(SCORE_FORM, word);
         if (root >= agents)
             return refusal(SCORE_REFERENCE, word);

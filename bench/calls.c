@@ -4,14 +4,18 @@
 #include <string.h>
 
 #include "baseline.h"
-#include "fault.h"
+#include "score.h"
+
+enum { LENT_LENGTH = 8, LENT_STATE = 9, LENT_INPUT = 10, KEPT_LENGTH = 12, LENT_SWITCHES = 17 };
 
 /* The numbers 13, 14, 15 and 18 are laid out by their own. */
 static const uint64_t KEPT_FORM = UINT64_C(2) << 61, KEPT_DIFFERS = UINT64_C(3) << 61, KEPT_FULL = UINT64_C(4) << 61;
 static const uint64_t LENT_LAST = UINT64_C(7) << 61;
 
+static const uint32_t RUNNING_WORD = 0xF0000000, ABORTED_WORD = 0xF0000001;
+
 /* The word of a state that has its number. */
-enum { NUMBER_WORD = 1 + SCORE_MAX_AGENTS / 32 };
+enum { NUMBER_WORD = 1 + AGENTS_MAX / 32 };
 
 struct state {
     int aborted;
@@ -54,7 +58,7 @@ void take_apart(struct score *score, const uint8_t *bytes, size_t len)
 static int read_state(struct state *state, const struct score *score, const uint8_t *bytes)
 {
     uint32_t word_0 = word_at(bytes, 0), any = 0, beyond = 0, i;
-    for (i = 0; i < SCORE_MAX_AGENTS / 32; i++) {
+    for (i = 0; i < AGENTS_MAX / 32; i++) {
         uint32_t word = word_at(bytes, 1 + i);
         uint32_t known = score->agents <= 32 * i ? 0 : score->agents - 32 * i;
         state->agents.words[i] = word;
@@ -62,17 +66,17 @@ static int read_state(struct state *state, const struct score *score, const uint
         beyond |= known >= 32 ? 0 : word >> known;
     }
     state->number = word_at(bytes, NUMBER_WORD);
-    state->aborted = word_0 == SCORE_STATE_ABORTED;
+    state->aborted = word_0 == ABORTED_WORD;
     if (state->aborted)
         return any == 0;
-    return word_0 == SCORE_STATE_RUNNING && beyond == 0;
+    return word_0 == RUNNING_WORD && beyond == 0;
 }
 
 static void write_state(uint8_t *bytes, const struct state *state)
 {
     uint32_t i;
-    put_word(bytes, 0, state->aborted ? SCORE_STATE_ABORTED : SCORE_STATE_RUNNING);
-    for (i = 0; i < SCORE_MAX_AGENTS / 32; i++)
+    put_word(bytes, 0, state->aborted ? ABORTED_WORD : RUNNING_WORD);
+    for (i = 0; i < AGENTS_MAX / 32; i++)
         put_word(bytes, 1 + i, state->agents.words[i]);
     put_word(bytes, NUMBER_WORD, state->number);
 }
@@ -80,7 +84,7 @@ static void write_state(uint8_t *bytes, const struct state *state)
 static void read_map(struct tokens *tokens, const uint8_t *bytes)
 {
     uint32_t i, byte;
-    for (i = 0; i < SCORE_MAX_TOKENS / 64; i++) {
+    for (i = 0; i < TOKENS_MAX / 64; i++) {
         tokens->words[i] = 0;
         for (byte = 0; byte < 8; byte++)
             tokens->words[i] |= (uint64_t)bytes[8 * i + byte] << 8 * byte;
@@ -109,7 +113,7 @@ static int has_unknown_token(const struct tokens *tokens, const struct score *sc
 {
     uint64_t unknown = 0;
     uint32_t i;
-    for (i = 0; i < SCORE_MAX_TOKENS / 64; i++)
+    for (i = 0; i < TOKENS_MAX / 64; i++)
         unknown |= tokens->words[i] & ~between(i, 0, score->tokens - 1);
     return unknown != 0;
 }
@@ -118,17 +122,16 @@ static int has_unknown_token(const struct tokens *tokens, const struct score *sc
 static void output_of(struct tokens *output, const struct score *score, const struct end *end)
 {
     uint32_t i;
-    for (i = 0; i < SCORE_MAX_TOKENS / 64; i++)
+    for (i = 0; i < TOKENS_MAX / 64; i++)
         output->words[i] = end->store.words[i] & between(i, score->lowest_port, score->highest_port);
-    if (end->status == SCORE_CLASH)
+    if (end->status == CLASHED)
         memset(output, 0, sizeof *output);
-    spoil_output(output, score, end);
 }
 
 static void add_facts(struct tokens *told, const struct tokens *input, const struct tokens *facts)
 {
     uint32_t i;
-    for (i = 0; i < SCORE_MAX_TOKENS / 64; i++)
+    for (i = 0; i < TOKENS_MAX / 64; i++)
         told->words[i] = input->words[i] | facts->words[i];
 }
 
@@ -160,9 +163,9 @@ static void step(const struct engine *engine, const struct score *score, const s
         end->count = count_reduced(scratch, score->agents);
         clear(scratch);
     }
-    if (state->aborted || end->status == SCORE_ABORTED) {
+    if (state->aborted || end->status == ABORTED) {
         memset(end, 0, sizeof *end);
-        end->status = SCORE_ABORTED;
+        end->status = ABORTED;
         state->aborted = 1;
     }
     state->agents = end->awake;
@@ -183,18 +186,17 @@ uint64_t call_instant(const struct engine *engine, const uint8_t *score_bytes, s
         return fault;
     if (state_len != SCORE_STATE_BYTES || input_len != SCORE_MAP_BYTES || store_len != SCORE_MAP_BYTES
         || output_len != SCORE_MAP_BYTES || scratch_len != SCORE_SCRATCH_BYTES)
-        return refusal(SCORE_BUFFER);
+        return refusal(LENT_LENGTH);
     take_apart(&score, score_bytes, score_len);
     if (!read_state(&state, &score, state_bytes))
-        return refusal(SCORE_STATE);
+        return refusal(LENT_STATE);
     read_map(&input, input_bytes);
     if (has_unknown_token(&input, &score))
-        return refusal(SCORE_INPUT);
+        return refusal(LENT_INPUT);
     if (is_last(&state))
         return refusal_at_last(0);
     engine->prepare(&score, &index);
-    if (!FAULT(OLD_BITS_COUNTED))
-        clear(scratch);
+    clear(scratch);
     step(engine, &score, &index, &state, &input, scratch, &end);
     output_of(&output, &score, &end);
     write_state(state_bytes, &state);
@@ -206,7 +208,7 @@ uint64_t call_instant(const struct engine *engine, const uint8_t *score_bytes, s
 /* The word that a list's or journal's word may not be below, to come after the one before it in the same instant. */
 static uint32_t least_after(uint32_t before)
 {
-    return SCORE_KIND(before) == SCORE_KIND_INSTANT ? SCORE_INPUT_WORD : before + !FAULT(NOT_STRICT);
+    return kind_of(before) == INSTANT ? (uint32_t)INPUT << 28 : before + 1;
 }
 
 /* The lowest word against the form of a list, whose highest status is 0, or of a journal, whose highest is 2; `words`
@@ -214,14 +216,14 @@ static uint32_t least_after(uint32_t before)
  */
 static size_t lowest_fault(const uint8_t *bytes, size_t words, uint32_t highest_status, uint32_t tokens)
 {
-    uint32_t last_kind = highest_status ? SCORE_KIND_OUTPUT : SCORE_KIND_INPUT, least = 0;
+    uint32_t last_kind = highest_status ? OUTPUT : INPUT, least = 0;
     size_t at;
     for (at = 0; at < words; at++) {
-        uint32_t word = word_at(bytes, at), low = word & ~SCORE_KIND_MASK;
-        if (SCORE_KIND(word) == SCORE_KIND_INSTANT) {
+        uint32_t word = word_at(bytes, at), low = word & 0x0FFFFFFF;
+        if (kind_of(word) == INSTANT) {
             if (low > highest_status)
                 return at;
-        } else if (at == 0 || word < least || SCORE_KIND(word) > last_kind || low >= tokens) {
+        } else if (at == 0 || word < least || kind_of(word) > last_kind || low >= tokens) {
             return at;
         }
         least = least_after(word);
@@ -234,7 +236,7 @@ static uint64_t kept_fault(const uint8_t *bytes, size_t len, uint32_t highest_st
 {
     size_t fault;
     if (len % 4 != 0)
-        return refusal(SCORE_LIST_LENGTH);
+        return refusal(KEPT_LENGTH);
     fault = lowest_fault(bytes, len / 4, highest_status, tokens);
     return fault < len / 4 ? KEPT_FORM | fault : 0;
 }
@@ -243,7 +245,7 @@ static uint64_t kept_fault(const uint8_t *bytes, size_t len, uint32_t highest_st
 static size_t read_inputs(struct tokens *input, const uint8_t *bytes, size_t words, size_t at)
 {
     memset(input, 0, sizeof *input);
-    for (at++; at < words && SCORE_KIND(word_at(bytes, at)) == SCORE_KIND_INPUT; at++)
+    for (at++; at < words && kind_of(word_at(bytes, at)) == INPUT; at++)
         add_token(input, token_of(word_at(bytes, at)));
     return at;
 }
@@ -252,10 +254,10 @@ static void write_outputs(uint8_t *bytes, const struct tokens *output)
 {
     size_t word = 0;
     uint32_t i;
-    for (i = 0; i < SCORE_MAX_TOKENS / 64; i++) {
+    for (i = 0; i < TOKENS_MAX / 64; i++) {
         uint64_t left = output->words[i];
         while (left)
-            put_word(bytes, word++, SCORE_OUTPUT_WORD | (64 * i + take_lowest(&left)));
+            put_word(bytes, word++, (uint32_t)OUTPUT << 28 | (64 * i + take_lowest(&left)));
     }
 }
 
@@ -269,15 +271,13 @@ static int write_instant(struct room *journal, const uint8_t *inputs, size_t inp
                          const struct tokens *output)
 {
     size_t len = inputs_len + 4 * count_tokens(output);
-    if (len + FAULT(RUN_STOPS_EARLY) > journal->left)
+    if (len > journal->left)
         return 0;
     memcpy(journal->bytes, inputs, inputs_len);
-    put_word(journal->bytes, 0, SCORE_INSTANT_WORD | status);
+    put_word(journal->bytes, 0, (uint32_t)INSTANT << 28 | status);
     write_outputs(journal->bytes + inputs_len, output);
     journal->bytes += len;
     journal->left -= len;
-    if (FAULT(RUN_WRITES_BEYOND) && journal->left)
-        *journal->bytes = 0;
     return 1;
 }
 
@@ -298,8 +298,6 @@ static uint64_t run_list(const struct engine *engine, const struct score *score,
             return refusal_at_last(written);
         step(engine, score, &index, &next, &input, scratch, &end);
         output_of(&output, score, &end);
-        if (FAULT(ROOM_FOR_PORTS) && end.status == SCORE_CLASH && journal.left < 4 * (behind - at + 1))
-            return KEPT_FULL | written;
         if (!write_instant(&journal, inputs + 4 * at, 4 * (behind - at), end.status, &output))
             return KEPT_FULL | written;
         at = behind;
@@ -320,11 +318,11 @@ uint64_t call_run(const struct engine *engine, const uint8_t *score_bytes, size_
     if (answer)
         return answer;
     if (state_len != SCORE_STATE_BYTES || scratch_len != SCORE_SCRATCH_BYTES)
-        return refusal(SCORE_BUFFER);
+        return refusal(LENT_LENGTH);
     take_apart(&score, score_bytes, score_len);
     if (!read_state(&state, &score, state_bytes))
-        return refusal(SCORE_STATE);
-    answer = kept_fault(inputs, inputs_len, FAULT(LIST_STATUS) ? SCORE_ABORTED : SCORE_QUIET, score.tokens);
+        return refusal(LENT_STATE);
+    answer = kept_fault(inputs, inputs_len, QUIET, score.tokens);
     if (answer)
         return answer;
     room.bytes = journal;
@@ -339,19 +337,19 @@ uint64_t call_run(const struct engine *engine, const uint8_t *score_bytes, size_
 static size_t match_outputs(const uint8_t *bytes, size_t words, size_t at, const struct tokens *output)
 {
     uint32_t i;
-    for (i = 0; i < SCORE_MAX_TOKENS / 64; i++) {
+    for (i = 0; i < TOKENS_MAX / 64; i++) {
         uint64_t left = output->words[i];
         for (; left; at++)
-            if (at == words || word_at(bytes, at) != (SCORE_OUTPUT_WORD | (64 * i + take_lowest(&left))))
-                return FAULT(JOURNAL_CUT) && at == words ? at : 0;
+            if (at == words || word_at(bytes, at) != ((uint32_t)OUTPUT << 28 | (64 * i + take_lowest(&left))))
+                return 0;
     }
-    return at == words || SCORE_KIND(word_at(bytes, at)) == SCORE_KIND_INSTANT ? at : 0;
+    return at == words || kind_of(word_at(bytes, at)) == INSTANT ? at : 0;
 }
 
 static void start_state(struct state *state, const struct score *score)
 {
     memset(state, 0, sizeof *state);
-    add_agent(&state->agents, root_of(score, FAULT(LAST_STARTS) ? score->procedures - 1 : 0));
+    add_agent(&state->agents, root_of(score, 0));
 }
 
 /* Compares a journal in its form with the run, which ends at the last number: the instants that are alike, and whether
@@ -369,12 +367,12 @@ static uint64_t compare_journal(const struct engine *engine, const struct score 
     engine->prepare(score, &index);
     start_state(&state, score);
     while (at < words && !is_last(&state)) {
-        uint32_t status = word_at(journal, at) & SCORE_STATUS_MASK;
+        uint32_t status = word_at(journal, at) & 3;
         size_t outputs = read_inputs(&input, journal, words, at);
         step(engine, score, &index, &state, &input, scratch, &end);
         output_of(&output, score, &end);
         at = match_outputs(journal, words, outputs, &output);
-        if ((status != end.status && !FAULT(STATUS_UNCOMPARED)) || at == 0)
+        if (status != end.status || at == 0)
             return KEPT_DIFFERS | alike;
         alike++;
     }
@@ -389,9 +387,9 @@ uint64_t call_journal_check(const struct engine *engine, const uint8_t *score_by
     if (answer)
         return answer;
     if (scratch_len != SCORE_SCRATCH_BYTES)
-        return refusal(SCORE_BUFFER);
+        return refusal(LENT_LENGTH);
     take_apart(&score, score_bytes, score_len);
-    answer = kept_fault(journal, journal_len, SCORE_ABORTED, score.tokens);
+    answer = kept_fault(journal, journal_len, ABORTED, score.tokens);
     if (answer)
         return answer;
     clear(scratch);
@@ -419,12 +417,12 @@ struct trials {
     const struct score *score;
     struct index index;
     struct state state;
-    uint32_t counts[SCORE_ABORTED + 1];
+    uint32_t counts[ABORTED + 1];
 };
 
 static void try_setting(struct trials *trials, const struct tokens *told)
 {
-    uint32_t status = SCORE_ABORTED;
+    uint32_t status = ABORTED;
     if (!trials->state.aborted)
         status = trials->engine->status(trials->score, &trials->index, &trials->state.agents, told);
     trials->counts[status]++;
@@ -440,15 +438,14 @@ static void try_settings(struct trials *trials, const struct tokens *told, const
         return;
     }
     add_token(&with, switches[0]);
-    try_settings(trials, &with, switches + !FAULT(PRESSED_TWICE), left - !FAULT(PRESSED_TWICE), pressed - 1);
+    try_settings(trials, &with, switches + 1, left - 1, pressed - 1);
     if (left > pressed)
         try_settings(trials, told, switches + 1, left - 1, pressed);
 }
 
 static uint64_t counted(const uint32_t *counts)
 {
-    return UINT64_C(5) << 61 | counts[SCORE_QUIET] | (uint64_t)counts[SCORE_CLASH] << 14
-         | (uint64_t)counts[SCORE_ABORTED] << 28;
+    return UINT64_C(5) << 61 | counts[QUIET] | (uint64_t)counts[CLASHED] << 14 | (uint64_t)counts[ABORTED] << 28;
 }
 
 uint64_t call_settings(const struct engine *engine, const uint8_t *score_bytes, size_t score_len,
@@ -461,12 +458,12 @@ uint64_t call_settings(const struct engine *engine, const uint8_t *score_bytes, 
     if (answer)
         return answer;
     if (state_len != SCORE_STATE_BYTES)
-        return refusal(SCORE_BUFFER);
+        return refusal(LENT_LENGTH);
     take_apart(&score, score_bytes, score_len);
     if (!read_state(&trials.state, &score, state_bytes))
-        return refusal(SCORE_STATE);
+        return refusal(LENT_STATE);
     if (!are_switches(&score, switches, switches_len, k))
-        return refusal(SCORE_SWITCHES);
+        return refusal(LENT_SWITCHES);
     trials.engine = engine;
     trials.score = &score;
     memset(trials.counts, 0, sizeof trials.counts);

@@ -8,13 +8,15 @@
 #include "engines.h"
 #include "words.h"
 
+enum { QUIET, CLASHED, ABORTED };
+
 /* A set of agents, or of tokens. */
 struct agents {
-    uint32_t words[SCORE_MAX_AGENTS / 32];
+    uint32_t words[AGENTS_MAX / 32];
 };
 
 struct tokens {
-    uint64_t words[SCORE_MAX_TOKENS / 64];
+    uint64_t words[TOKENS_MAX / 64];
 };
 
 /* An accepted score, whose words stay where they are. Facts are among the rules. */
@@ -33,12 +35,12 @@ struct end {
 /* What an engine keeps of a score from instant to instant: the facts; the rules of each premise, as lists of the uses
  * 2 * rule and 2 * rule + 1 that end with NO_USE, and how many different premises each rule has.
  */
-enum { NO_USE = 2 * SCORE_MAX_RULES };
+enum { NO_USE = 2 * RULES_MAX };
 
 struct index {
     struct tokens facts;
-    uint16_t first_use[SCORE_MAX_TOKENS], next_use[2 * SCORE_MAX_RULES];
-    uint8_t premises[SCORE_MAX_RULES];
+    uint16_t first_use[TOKENS_MAX], next_use[2 * RULES_MAX];
+    uint8_t premises[RULES_MAX];
 };
 
 /* An instant is given the tokens that are in the store from its start, the inputs and the facts, and the lent scratch,
@@ -73,15 +75,9 @@ uint64_t call_settings(const struct engine *engine, const uint8_t *score, size_t
 static inline uint32_t body_of(uint32_t word) { return word & 0x3FF; }
 static inline uint32_t other_half_of(uint32_t word) { return word >> 10 & 0x3FF; }
 static inline uint32_t awaited_by(uint32_t word) { return word >> 10 & 0xFF; }
-static inline uint32_t token_of(uint32_t word) { return word & SCORE_TOKEN_MASK; }
+static inline uint32_t token_of(uint32_t word) { return word & 0xFF; }
 static inline uint32_t premise_of(uint32_t word) { return word >> 8 & 0xFF; }
 static inline uint32_t other_premise_of(uint32_t word) { return word >> 16 & 0xFF; }
-
-/* Awake next, if what it asks for allows it. */
-static inline int is_put_off(uint32_t word)
-{
-    return SCORE_KIND(word) == SCORE_KIND_NEXT || SCORE_KIND(word) == SCORE_KIND_UNLESS;
-}
 
 static inline uint32_t root_of(const struct score *score, uint32_t call)
 {
@@ -126,7 +122,7 @@ static inline uint32_t count_bits(uint64_t word)
 static inline size_t count_tokens(const struct tokens *set)
 {
     size_t count = 0, i;
-    for (i = 0; i < SCORE_MAX_TOKENS / 64; i++)
+    for (i = 0; i < TOKENS_MAX / 64; i++)
         count += count_bits(set->words[i]);
     return count;
 }

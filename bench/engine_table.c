@@ -105,7 +105,7 @@ static void write_start(struct lent *lent)
     uint32_t agents = (lent->score.bytes[1] | (lent->score.bytes[2] & 3u) << 8) + 1, root = agents - 1;
     size_t len = 0;
     memset(lent->start, 0, SCORE_STATE_BYTES);
-    put_word(lent->start, &len, SCORE_STATE_RUNNING);
+    put_word(lent->start, &len, 0xF0000000);
     lent->start[4 + root / 8] |= (uint8_t)(1 << root % 8);
 }
 
@@ -118,9 +118,9 @@ static void write_inputs(struct lent *lent, const struct input_tokens *input)
         lent->input[input->tokens[i] / 8] |= (uint8_t)(1 << input->tokens[i] % 8);
     lent->inputs_len = 0;
     for (instant = 0; instant < INSTANTS; instant++) {
-        put_word(lent->inputs, &lent->inputs_len, SCORE_INSTANT_WORD);
+        put_word(lent->inputs, &lent->inputs_len, 0xC0000000);
         for (i = 0; i < input->len; i++)
-            put_word(lent->inputs, &lent->inputs_len, SCORE_INPUT_WORD | input->tokens[i]);
+            put_word(lent->inputs, &lent->inputs_len, 0xD0000000 | input->tokens[i]);
     }
 }
 

@@ -5,7 +5,7 @@
 
 #include <string.h>
 
-enum { NOBODY = SCORE_MAX_AGENTS };
+enum { NOBODY = AGENTS_MAX };
 
 struct work {
     const struct score *score;
@@ -13,10 +13,10 @@ struct work {
     struct end *end;
     uint8_t *reduced;
     struct agents seen;
-    uint16_t agents[SCORE_MAX_AGENTS], kept[SCORE_MAX_AGENTS]; /* agents to take up; every next and unless taken up */
-    uint16_t first_when[SCORE_MAX_TOKENS], next_when[SCORE_MAX_AGENTS]; /* the whens that wait for each token */
-    uint8_t tokens[SCORE_MAX_TOKENS]; /* tokens that entered and whose waiters are to be told */
-    uint8_t premises_missing[SCORE_MAX_RULES];
+    uint16_t agents[AGENTS_MAX], kept[AGENTS_MAX];  /* agents to take up; every next and unless taken up */
+    uint16_t first_when[TOKENS_MAX], next_when[AGENTS_MAX]; /* the whens that wait for each token */
+    uint8_t tokens[TOKENS_MAX];                     /* tokens that entered and whose waiters are to be told */
+    uint8_t premises_missing[RULES_MAX];
     uint32_t agents_len, kept_len, tokens_len;
 };
 
@@ -71,18 +71,18 @@ static void wait_for(struct work *work, uint32_t token, uint32_t agent)
 static int take_up(struct work *work, uint32_t agent)
 {
     uint32_t word = word_at(work->score->agent_words, agent);
-    switch (SCORE_KIND(word)) {
-    case SCORE_KIND_SKIP_ABORT:
+    switch (kind_of(word)) {
+    case SKIP_ABORT:
         if (word & 1)
             return 0;
         break;
-    case SCORE_KIND_TELL: enter(work, token_of(word)); break;
-    case SCORE_KIND_PARALLEL:
+    case TELL: enter(work, token_of(word)); break;
+    case PARALLEL:
         wake(work, body_of(word));
         wake(work, other_half_of(word));
         break;
-    case SCORE_KIND_CALL: wake(work, root_of(work->score, word)); break;
-    case SCORE_KIND_WHEN:
+    case CALL: wake(work, root_of(work->score, word)); break;
+    case WHEN:
         if (!has_token(&work->end->store, awaited_by(word))) {
             wait_for(work, awaited_by(word), agent);
             return 1;
@@ -146,12 +146,12 @@ static void start(struct work *work, const struct agents *awake, const struct to
     work->agents_len = work->kept_len = work->tokens_len = 0;
     for (i = 0; i < work->score->tokens; i++)
         work->first_when[i] = NOBODY;
-    for (i = 0; i < SCORE_MAX_AGENTS / 64; i++) {
+    for (i = 0; i < AGENTS_MAX / 64; i++) {
         uint64_t left = awake->words[2 * i] | (uint64_t)awake->words[2 * i + 1] << 32;
         while (left)
             wake(work, 64 * i + take_lowest(&left));
     }
-    for (i = 0; i < SCORE_MAX_TOKENS / 64; i++) {
+    for (i = 0; i < TOKENS_MAX / 64; i++) {
         uint64_t left = told->words[i];
         while (left)
             enter(work, 64 * i + take_lowest(&left));
@@ -164,7 +164,7 @@ static void wake_kept(struct work *work)
     uint32_t i;
     for (i = 0; i < work->kept_len; i++) {
         uint32_t word = word_at(work->score->agent_words, work->kept[i]);
-        if (SCORE_KIND(word) == SCORE_KIND_UNLESS && has_token(&work->end->store, awaited_by(word)))
+        if (kind_of(word) == UNLESS && has_token(&work->end->store, awaited_by(word)))
             set_reduced(work->reduced, work->kept[i]);
         else
             add_agent(&work->end->awake, body_of(word));
@@ -179,8 +179,8 @@ static uint32_t play(struct work *work, const struct score *score, const struct 
     work->index = index;
     start(work, awake, told);
     if (!work_off(work))
-        return SCORE_ABORTED;
-    return has_token(&work->end->store, 0) ? SCORE_CLASH : SCORE_QUIET;
+        return ABORTED;
+    return has_token(&work->end->store, 0) ? CLASHED : QUIET;
 }
 
 static void instant(const struct score *score, const struct index *index, const struct agents *awake,
@@ -190,14 +190,14 @@ static void instant(const struct score *score, const struct index *index, const 
     work.end = end;
     work.reduced = reduced;
     end->status = play(&work, score, index, awake, told);
-    if (end->status != SCORE_ABORTED)
+    if (end->status != ABORTED)
         wake_kept(&work);
 }
 
 static uint32_t status(const struct score *score, const struct index *index, const struct agents *awake,
                        const struct tokens *told)
 {
-    uint8_t reduced[SCORE_MAX_AGENTS / 8] = {0};
+    uint8_t reduced[AGENTS_MAX / 8] = {0};
     struct work work;
     struct end end;
     work.end = &end;

@@ -26,30 +26,29 @@ static void push(struct score_bytes *score, uint32_t word)
         score->bytes[score->len++] = (uint8_t)(word >> 8 * i);
 }
 
-static uint32_t procedure(uint32_t root) { return SCORE_WORD(SCORE_KIND_PROCEDURE, root); }
-static uint32_t skip(void) { return SCORE_WORD(SCORE_KIND_SKIP_ABORT, 0); }
-static uint32_t tell(uint32_t token) { return SCORE_WORD(SCORE_KIND_TELL, token); }
-static uint32_t parallel(uint32_t half, uint32_t other) { return SCORE_WORD(SCORE_KIND_PARALLEL, half | other << 10); }
-static uint32_t when(uint32_t body, uint32_t token) { return SCORE_WORD(SCORE_KIND_WHEN, body | token << 10); }
-static uint32_t next(uint32_t body) { return SCORE_WORD(SCORE_KIND_NEXT, body); }
-static uint32_t unless(uint32_t body, uint32_t token) { return SCORE_WORD(SCORE_KIND_UNLESS, body | token << 10); }
-static uint32_t call(uint32_t called) { return SCORE_WORD(SCORE_KIND_CALL, called); }
-static uint32_t watch(uint32_t body, uint32_t token) { return SCORE_WORD(SCORE_KIND_WATCH, body | token << 10); }
+static uint32_t procedure(uint32_t root) { return 0x30000000 | root; }
+static uint32_t skip(void) { return 0x40000000; }
+static uint32_t tell(uint32_t token) { return 0x50000000 | token; }
+static uint32_t parallel(uint32_t half, uint32_t other) { return 0x60000000 | half | other << 10; }
+static uint32_t when(uint32_t body, uint32_t token) { return 0x70000000 | body | token << 10; }
+static uint32_t next(uint32_t body) { return 0x80000000 | body; }
+static uint32_t unless(uint32_t body, uint32_t token) { return 0x90000000 | body | token << 10; }
+static uint32_t call(uint32_t called) { return 0xA0000000 | called; }
+static uint32_t watch(uint32_t body, uint32_t token) { return 0xF0000000 | body | token << 10; }
 
 static uint32_t rule(uint32_t conclusion, uint32_t premise, uint32_t other)
 {
-    return SCORE_WORD(SCORE_KIND_RULE, conclusion | premise << 8 | other << 16);
+    return 0x20000000 | conclusion | premise << 8 | other << 16;
 }
 
-static uint32_t fact(uint32_t conclusion) { return SCORE_WORD(SCORE_KIND_RULE, SCORE_RULE_FACT | conclusion); }
+static uint32_t fact(uint32_t conclusion) { return 0x28000000 | conclusion; }
 
 /* Head and ports; all tokens are at the ports. */
 static void begin(struct score_bytes *score, struct sizes sizes)
 {
-    uint32_t counts = (sizes.tokens - 1) | (sizes.agents - 1) << 8 | (sizes.procedures - 1) << 18;
     score->len = 0;
-    push(score, SCORE_WORD(SCORE_KIND_HEAD, counts));
-    push(score, SCORE_WORD(SCORE_KIND_PORTS, (sizes.tokens - 1) << 8));
+    push(score, 0x10000000 | (sizes.tokens - 1) | (sizes.agents - 1) << 8 | (sizes.procedures - 1) << 18);
+    push(score, 0xB0000000 | (sizes.tokens - 1) << 8);
 }
 
 /* An agent over bodies first to agent - 1 that calls, unguarded, only lower procedures. */
@@ -302,40 +301,17 @@ void build_watched_winches(struct score_bytes *draft, uint32_t winches)
         push(draft, rule(0, watched_token(winch, RUNS), watched_token(winch, LIMIT)));
 }
 
-/* At each of so many steps the agent before stands both under one more watch and not; the last agent. */
-static uint32_t push_diamond(struct score_bytes *draft, uint32_t before, uint32_t steps)
-{
-    uint32_t i;
-    for (i = 0; i < steps; i++) {
-        push(draft, watch(before + 2 * i, 1 + i));
-        push(draft, parallel(before + 2 * i, before + 2 * i + 1));
-    }
-    return before + 2 * steps;
-}
-
-/* 2^n copies of a tell. */
+/* At each step the agent before stands both under one more watch and not: 2^n copies of a tell. */
 void build_diamond(struct score_bytes *draft, uint32_t watches)
 {
     struct sizes sizes = {256, 0, 1, 0};
+    uint32_t i;
     sizes.agents = 2 * watches + 1;
     begin(draft, sizes);
     push(draft, tell(1));
-    push(draft, procedure(push_diamond(draft, 0, watches)));
-}
-
-/* Parallels beside a chain of watches of all tokens, under a diamond of so many steps and so under 2^steps sets: as
- * many as make 1,024 agents, which refer 1,024 times to the chain. It is as long as there is still space for.
- */
-void build_watch_chain(struct score_bytes *draft, uint32_t steps)
-{
-    struct sizes sizes = {SCORE_MAX_TOKENS, SCORE_MAX_AGENTS, 1, 0};
-    uint32_t parallels = (SCORE_MAX_AGENTS >> steps) - 1, chain = SCORE_MAX_AGENTS - 1 - parallels - 2 * steps, i;
-    begin(draft, sizes);
-    push(draft, tell(1));
-    for (i = 0; i < chain; i++)
-        push(draft, watch(i, i % SCORE_MAX_TOKENS));
-    push(draft, parallel(chain, chain));
-    for (i = 1; i < parallels; i++)
-        push(draft, parallel(chain + i, chain));
-    push(draft, procedure(push_diamond(draft, chain + parallels, steps)));
+    for (i = 0; i < watches; i++) {
+        push(draft, watch(2 * i, 1 + i));
+        push(draft, parallel(2 * i, 2 * i + 1));
+    }
+    push(draft, procedure(2 * watches));
 }

@@ -28,7 +28,6 @@ void build_call_chain(struct score_bytes *score);
 /* Drafts, of so many winches or watches. */
 void build_watched_winches(struct score_bytes *draft, uint32_t winches);
 void build_diamond(struct score_bytes *draft, uint32_t watches);
-void build_watch_chain(struct score_bytes *draft, uint32_t steps);
 
 /* For the engines, of so many winches, whens, rules or parallels: procedure 0 calls itself again under a next, so that
  * every instant has the same work.

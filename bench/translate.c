@@ -9,10 +9,12 @@
 
 #include "baseline.h"
 #include "calls.h"
-#include "fault.h"
+#include "score.h"
+
+enum { LENT_LENGTH = 8, TOO_LARGE = 16 };
 
 /* A pair may lead to two more before it is seen that they are too many. Each new set comes with a pair. */
-enum { PAIRS_MAX = SCORE_MAX_AGENTS + 4, SETS_MAX = PAIRS_MAX + 1, SLOTS = 2 * SCORE_MAX_AGENTS, NO_SET = SETS_MAX };
+enum { PAIRS_MAX = AGENTS_MAX + 4, SETS_MAX = PAIRS_MAX + 1, SLOTS = 2 * AGENTS_MAX, NO_SET = SETS_MAX };
 
 /* A slot has an entry's number, counted from 1, or 0. */
 struct sets {
@@ -43,19 +45,13 @@ static uint64_t refusal(uint32_t number)
     return UINT64_C(1) << 61 | number;
 }
 
-static int is_less(uint64_t one, uint64_t other)
-{
-    uint64_t differing = one ^ other;
-    return FAULT(SETS_AS_LISTS) ? (one & differing & -differing) != 0 : one < other;
-}
-
 /* Sets are compared as the sum of 2 to the power of each token. */
 static int compare_sets(const struct tokens *one, const struct tokens *other)
 {
-    uint32_t i = SCORE_MAX_TOKENS / 64;
+    uint32_t i = TOKENS_MAX / 64;
     while (i-- > 0)
         if (one->words[i] != other->words[i])
-            return is_less(one->words[i], other->words[i]) ? -1 : 1;
+            return one->words[i] < other->words[i] ? -1 : 1;
     return 0;
 }
 
@@ -101,10 +97,10 @@ static uint32_t find(struct pairs *pairs, uint32_t number, uint32_t set)
 
 static int is_too_large(const struct work *work)
 {
-    return work->draft.tokens + work->asked.len > SCORE_MAX_TOKENS - FAULT(TOKENS_LIMIT)
-        || work->agents.len > SCORE_MAX_AGENTS - FAULT(AGENTS_LIMIT)
-        || work->procedures.len > SCORE_MAX_PROCEDURES - FAULT(PROCEDURES_LIMIT)
-        || work->rules > SCORE_MAX_RULES + FAULT(RULES_LIMIT);
+    return work->draft.tokens + work->asked.len > TOKENS_MAX
+        || work->agents.len > AGENTS_MAX
+        || work->procedures.len > PROCEDURES_MAX
+        || work->rules > RULES_MAX;
 }
 
 static uint32_t agent_at(const struct work *work, uint32_t agent) { return word_at(work->draft.agent_words, agent); }
@@ -113,40 +109,27 @@ static uint32_t agent_at(const struct work *work, uint32_t agent) { return word_
 static uint16_t refer(struct work *work, uint32_t agent, uint32_t set)
 {
     uint32_t word = agent_at(work, agent);
-    if (SCORE_KIND(word) == SCORE_KIND_WATCH) {
+    if (kind_of(word) == WATCH) {
         struct tokens tokens = work->sets.of[set];
-        for (; SCORE_KIND(word) == SCORE_KIND_WATCH; word = agent_at(work, agent)) {
-            if (FAULT(LAST_WATCH_ALONE))
-                tokens = work->sets.of[set];
+        for (; kind_of(word) == WATCH; word = agent_at(work, agent)) {
             add_token(&tokens, awaited_by(word));
             agent = body_of(word);
         }
         set = find_set(&work->sets, &tokens);
     }
-    if (FAULT(PAIR_TWICE) && SCORE_KIND(word) == SCORE_KIND_SKIP_ABORT)
-        return (uint16_t)add(&work->agents, agent, set);
     return (uint16_t)find(&work->agents, agent, set);
-}
-
-/* Faults: the set is forgotten on the way through an agent of some kind. */
-static int is_lost(uint32_t kind)
-{
-    return (FAULT(LOST_AT_CALL) && kind == SCORE_KIND_CALL) || (FAULT(LOST_AT_NEXT) && kind == SCORE_KIND_NEXT)
-        || (FAULT(LOST_AT_UNLESS) && kind == SCORE_KIND_UNLESS);
 }
 
 static void follow_agent(struct work *work, uint32_t pair)
 {
     uint32_t word = agent_at(work, work->agents.number[pair]), set = work->agents.set[pair];
     uint16_t *leads_to = work->agents.leads_to[pair];
-    if (is_lost(SCORE_KIND(word)))
-        set = 0;
-    switch (SCORE_KIND(word)) {
-    case SCORE_KIND_PARALLEL: leads_to[1] = refer(work, other_half_of(word), set); /* fall through */
-    case SCORE_KIND_WHEN:
-    case SCORE_KIND_NEXT:
-    case SCORE_KIND_UNLESS: leads_to[0] = refer(work, body_of(word), set); break;
-    case SCORE_KIND_CALL: leads_to[0] = (uint16_t)find(&work->procedures, word & 0x3F, set); break;
+    switch (kind_of(word)) {
+    case PARALLEL: leads_to[1] = refer(work, other_half_of(word), set); /* fall through */
+    case WHEN:
+    case NEXT:
+    case UNLESS: leads_to[0] = refer(work, body_of(word), set); break;
+    case CALL: leads_to[0] = (uint16_t)find(&work->procedures, word & 0x3F, set); break;
     default: break;
     }
 }
@@ -174,15 +157,15 @@ static int follow(struct work *work)
     return 1;
 }
 
+/* Awake next, if the set that it stands under allows it. */
+static int is_put_off(uint32_t word) { return kind_of(word) == NEXT || kind_of(word) == UNLESS; }
+
 static struct tokens asked_by(uint32_t word, const struct tokens *set)
 {
     struct tokens asked = {{0}};
-    uint32_t kind = SCORE_KIND(word);
-    if ((is_put_off(word) && !(FAULT(UNLESS_WITHOUT_SET) && kind == SCORE_KIND_UNLESS)) || FAULT(WHEN_FOR_SET))
+    if (is_put_off(word))
         asked = *set;
-    if (FAULT(UNLESS_FOR_SET_ALONE) && kind == SCORE_KIND_UNLESS && count_tokens(set) > 0)
-        return asked;
-    if (kind == SCORE_KIND_WHEN || kind == SCORE_KIND_UNLESS)
+    if (kind_of(word) == WHEN || kind_of(word) == UNLESS)
         add_token(&asked, awaited_by(word));
     return asked;
 }
@@ -203,14 +186,14 @@ static int ask(struct work *work)
         struct tokens asked;
         size_t count;
         word = agent_at(work, work->agents.number[pair]);
-        if (SCORE_KIND(word) != SCORE_KIND_WHEN && !is_put_off(word))
+        if (kind_of(word) != WHEN && !is_put_off(word))
             continue;
         asked = asked_by(word, &work->sets.of[work->agents.set[pair]]);
         count = count_tokens(&asked);
         work->asked_by[pair] = NO_SET;
         if (count == 1)
             work->token[pair] = lowest_token(&asked);
-        if (count < (FAULT(NEW_TOKEN_FOR_ONE) && SCORE_KIND(word) == SCORE_KIND_NEXT ? 1 : 2))
+        if (count < 2)
             continue;
         before = work->asked.len;
         work->asked_by[pair] = (uint16_t)find_set(&work->asked, &asked);
@@ -268,28 +251,23 @@ static void sort_pairs(struct pairs *pairs, uint32_t numbers, const struct sets 
 static uint32_t asked_token(const struct work *work, uint32_t pair)
 {
     uint32_t set = work->asked_by[pair];
-    if (set == NO_SET)
-        return work->token[pair];
-    return work->draft.tokens + (FAULT(TOKENS_AS_FOUND) ? set : work->asked.place[set]);
+    return set == NO_SET ? work->token[pair] : work->draft.tokens + work->asked.place[set];
 }
 
-static uint32_t word_of(uint32_t kind, uint32_t low, uint32_t high) { return SCORE_WORD(kind, low | high << 10); }
+static uint32_t word_of(uint32_t kind, uint32_t low, uint32_t high) { return kind << 28 | low | high << 10; }
 
 static uint32_t agent_word(const struct work *work, uint32_t pair)
 {
     uint32_t word = agent_at(work, work->agents.number[pair]);
     const uint16_t *leads_to = work->agents.leads_to[pair], *place = work->agents.place;
-    switch (SCORE_KIND(word)) {
-    case SCORE_KIND_PARALLEL: return word_of(SCORE_KIND_PARALLEL, place[leads_to[0]], place[leads_to[1]]);
-    case SCORE_KIND_WHEN:
-        if (FAULT(STRONG_STOP) && has_token(&work->sets.of[work->agents.set[pair]], awaited_by(word)))
-            return word_of(SCORE_KIND_SKIP_ABORT, 0, 0);
-        return word_of(SCORE_KIND_WHEN, place[leads_to[0]], asked_token(work, pair));
-    case SCORE_KIND_NEXT:
-        if (work->agents.set[pair] == 0 || FAULT(NEXT_STAYS_NEXT))
-            return word_of(SCORE_KIND_NEXT, place[leads_to[0]], 0); /* fall through */
-    case SCORE_KIND_UNLESS: return word_of(SCORE_KIND_UNLESS, place[leads_to[0]], asked_token(work, pair));
-    case SCORE_KIND_CALL: return word_of(SCORE_KIND_CALL, work->procedures.place[leads_to[0]], 0);
+    switch (kind_of(word)) {
+    case PARALLEL: return word_of(PARALLEL, place[leads_to[0]], place[leads_to[1]]);
+    case WHEN: return word_of(WHEN, place[leads_to[0]], asked_token(work, pair));
+    case NEXT:
+        if (work->agents.set[pair] == 0)
+            return word_of(NEXT, place[leads_to[0]], 0); /* fall through */
+    case UNLESS: return word_of(UNLESS, place[leads_to[0]], asked_token(work, pair));
+    case CALL: return word_of(CALL, work->procedures.place[leads_to[0]], 0);
     default: return word;
     }
 }
@@ -299,12 +277,11 @@ static size_t write_new_rules(const struct work *work, const struct tokens *cons
 {
     uint32_t set, i;
     for (set = 0; set < work->asked.len; set++)
-        for (i = 0; i < SCORE_MAX_TOKENS / 64; i++) {
+        for (i = 0; i < TOKENS_MAX / 64; i++) {
             uint64_t left = sets[set]->words[i];
             while (left) {
                 uint32_t member = 64 * i + take_lowest(&left);
-                uint32_t fields = (work->draft.tokens + set) | member << 8 | member << 16;
-                put_word(plain, word++, SCORE_WORD(SCORE_KIND_RULE, fields));
+                put_word(plain, word++, (uint32_t)RULE << 28 | (work->draft.tokens + set) | member << 8 | member << 16);
             }
         }
     return word;
@@ -321,14 +298,12 @@ static size_t write_plain(struct work *work, const uint8_t *draft, uint8_t *plai
     sort_pairs(&work->agents, work->draft.agents, &work->sets);
     sort_pairs(&work->procedures, work->draft.procedures, &work->sets);
     sort_sets(&work->asked, order);
-    put_word(plain, 0, word_of(SCORE_KIND_HEAD, tokens - 1, 0) | (agents->len - 1) << 8 | (procedures->len - 1) << 18);
+    put_word(plain, 0, word_of(HEAD, tokens - 1, 0) | (agents->len - 1) << 8 | (procedures->len - 1) << 18);
     put_word(plain, 1, word_at(draft, 1));
     for (i = 0; i < agents->len; i++)
         put_word(plain, word++, agent_word(work, agents->order[i]));
-    for (i = 0; i < procedures->len; i++) {
-        uint32_t root = procedures->leads_to[procedures->order[i]][0];
-        put_word(plain, word++, word_of(SCORE_KIND_PROCEDURE, agents->place[root], 0));
-    }
+    for (i = 0; i < procedures->len; i++)
+        put_word(plain, word++, word_of(PROCEDURE, agents->place[procedures->leads_to[procedures->order[i]][0]], 0));
     memcpy(plain + 4 * word, work->draft.rule_words, 4 * (size_t)work->draft.rules);
     return 4 * write_new_rules(work, order, plain, word + work->draft.rules);
 }
@@ -350,10 +325,10 @@ uint64_t baseline_translate(const uint8_t *draft, size_t draft_len, uint8_t *pla
     if (answer)
         return answer;
     if (plain_len != SCORE_MAX_BYTES)
-        return refusal(SCORE_BUFFER);
+        return refusal(LENT_LENGTH);
     take_apart(&work.draft, draft, draft_len);
     clear(&work);
     if (!follow(&work) || !ask(&work))
-        return refusal(SCORE_LARGE);
+        return refusal(TOO_LARGE);
     return write_plain(&work, draft, plain);
 }

@@ -82,9 +82,5 @@ int print_translate_table(void)
     build_diamond(&draft, 9);
     equal &= compare("9 watches in a diamond", &draft, SCORE_ACCEPTED);
     build_diamond(&draft, 16);
-    equal &= compare("16 watches in a diamond: 16", &draft, SCORE_LARGE);
-    build_watch_chain(&draft, 3);
-    equal &= compare("890 watches, 8 sets", &draft, SCORE_ACCEPTED);
-    build_watch_chain(&draft, 8);
-    return equal & compare("1,004 watches, 256 sets", &draft, SCORE_ACCEPTED);
+    return equal & compare("16 watches in a diamond: 16", &draft, SCORE_LARGE);
 }

@@ -5,7 +5,12 @@
 #include <stddef.h>
 #include <stdint.h>
 
-#include "score.h"
+enum { TOKENS_MAX = 256, AGENTS_MAX = 1024, PROCEDURES_MAX = 64, RULES_MAX = 256 };
+
+enum {
+    HEAD = 1, RULE, PROCEDURE, SKIP_ABORT, TELL, PARALLEL, WHEN, NEXT, UNLESS, CALL, PORTS, INSTANT, INPUT, OUTPUT,
+    WATCH
+};
 
 static inline uint32_t word_at(const uint8_t *bytes, size_t word)
 {
@@ -22,10 +27,9 @@ static inline void put_word(uint8_t *bytes, size_t word, uint32_t value)
     byte[3] = (uint8_t)(value >> 24);
 }
 
+static inline uint32_t kind_of(uint32_t word) { return word >> 28; }
+
 /* A rule word whose conclusion holds with no premise. */
-static inline int is_fact(uint32_t word)
-{
-    return (word & (SCORE_KIND_MASK | SCORE_RULE_FACT)) == SCORE_WORD(SCORE_KIND_RULE, SCORE_RULE_FACT);
-}
+static inline int is_fact(uint32_t word) { return word >> 27 == (RULE << 1 | 1); }
 
 #endif

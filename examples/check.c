@@ -36,7 +36,7 @@ static unsigned rules_from(struct sizes sizes)
 /* A rule word with bit 27 set: its conclusion holds with no premise. */
 static int is_fact(uint32_t word)
 {
-    return SCORE_KIND(word) == SCORE_KIND_RULE && word & SCORE_RULE_FACT;
+    return word >> 27 == 5;
 }
 
 static void print_accepted(const uint8_t *score, size_t score_len)
@@ -77,10 +77,10 @@ static void print_place(struct sizes sizes, unsigned word)
 
 static const char *reference_fault(uint32_t word)
 {
-    switch (SCORE_KIND(word)) {
-    case SCORE_KIND_PROCEDURE: return "the root is not an agent of this score";
-    case SCORE_KIND_CALL: return "the procedure called is not in this score";
-    case SCORE_KIND_PORTS: return "the lowest output token is above the highest";
+    switch (word >> 28) {
+    case 3: return "the root is not an agent of this score";
+    case 10: return "the procedure called is not in this score";
+    case 11: return "the lowest output token is above the highest";
     default: return "a body or half is not below its agent";
     }
 }

@@ -33,23 +33,23 @@ static uint32_t word_at(size_t word)
 static void print_agent(uint32_t w)
 {
     unsigned low = w & 0x3FF, high = w >> 10 & 0x3FF, token = w & 0xFF;
-    switch (SCORE_KIND(w)) {
-    case SCORE_KIND_SKIP_ABORT:
+    switch (w >> 28) {
+    case 4:
         printf(low ? "abort\n" : "skip\n");
         return;
-    case SCORE_KIND_TELL:
+    case 5:
         printf("tell %u\n", token);
         return;
-    case SCORE_KIND_PARALLEL:
+    case 6:
         printf("agents %u and %u\n", low, high);
         return;
-    case SCORE_KIND_WHEN:
+    case 7:
         printf("when %u, agent %u\n", high, low);
         return;
-    case SCORE_KIND_NEXT:
+    case 8:
         printf("next, agent %u\n", low);
         return;
-    case SCORE_KIND_UNLESS:
+    case 9:
         printf("unless %u, agent %u\n", high, low);
         return;
     default:
@@ -61,7 +61,7 @@ static void print_agent(uint32_t w)
 static void print_rule(uint32_t w)
 {
     unsigned conclusion = w & 0xFF, one = w >> 8 & 0xFF, other = w >> 16 & 0xFF;
-    if (w & SCORE_RULE_FACT)
+    if (w >> 27 & 1)
         printf("fact: %u\n", conclusion);
     else if (one == other)
         printf("rule: %u from %u\n", conclusion, one);

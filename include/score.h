@@ -16,10 +16,10 @@
  * from 0. A score's rules may have standing facts among them: rules without premises, whose tokens are in the store of
  * every instant that does not abort, told or not, and so is what follows from them.
  *
- * A draft is a score in which an agent may also be a watch, SCORE_KIND_WATCH. Its body runs in the same instant, and
- * goes on, still watched, unless the token was in the store when an instant was quiet. Only score_translate takes
- * drafts; it makes a plain score of one, and that is what a console plays. For every other function a watch is
- * SCORE_FORM.
+ * A draft is a score in which an agent may also be a watch: kind 15, body in bits 9..0, token in bits 17..10, other
+ * bits zero. Its body runs in the same instant, and goes on, still watched, unless the token was in the store when
+ * an instant was quiet. Only score_translate takes drafts; it makes a plain score of one, and that is what a
+ * console plays. For every other function a word of kind 15 is SCORE_FORM.
  */
 #ifndef SCORE_H
 #define SCORE_H
@@ -37,32 +37,8 @@ extern "C" {
 #define SCORE_MUST_USE
 #endif
 
-/* Words have 32 bits and are stored low byte first. Bits 31..28 are a word's kind; bits that are not named are zero. */
+/* Words have 32 bits and are stored low byte first. */
 #define SCORE_WORD_BYTES 4
-#define SCORE_KIND(word) ((word) >> 28)
-#define SCORE_WORD(kind, fields) ((kind) << 28 | (fields))
-
-/* The kinds, and the fields of their words. A score has, in this order, a head, ports, N agents, P procedures, and at
- * most SCORE_MAX_RULES rules. Agent i is word 2 + i; a body or half has a lower number than its agent.
- */
-#define SCORE_KIND_HEAD UINT32_C(1)       /* T-1 in bits 7..0, N-1 in 17..8, P-1 in 23..18 */
-#define SCORE_KIND_RULE UINT32_C(2)       /* conclusion 7..0, premises 15..8 and 23..16 */
-#define SCORE_KIND_PROCEDURE UINT32_C(3)  /* root agent 9..0 */
-#define SCORE_KIND_SKIP_ABORT UINT32_C(4) /* agent; bit 0: 0 skip, 1 abort */
-#define SCORE_KIND_TELL UINT32_C(5)       /* agent; token 7..0 */
-#define SCORE_KIND_PARALLEL UINT32_C(6)   /* agent; halves 9..0 and 19..10 */
-#define SCORE_KIND_WHEN UINT32_C(7)       /* agent; body 9..0, token 17..10 */
-#define SCORE_KIND_NEXT UINT32_C(8)       /* agent; body 9..0 */
-#define SCORE_KIND_UNLESS UINT32_C(9)     /* agent; body 9..0, token 17..10 */
-#define SCORE_KIND_CALL UINT32_C(10)      /* agent; procedure 5..0 */
-#define SCORE_KIND_PORTS UINT32_C(11)     /* lowest output token 7..0, highest 15..8 */
-#define SCORE_KIND_INSTANT UINT32_C(12)   /* of lists and journals; status 1..0 */
-#define SCORE_KIND_INPUT UINT32_C(13)     /* of lists and journals; token 7..0 */
-#define SCORE_KIND_OUTPUT UINT32_C(14)    /* of journals; token 7..0 */
-#define SCORE_KIND_WATCH UINT32_C(15)     /* agent of a draft; body 9..0, token 17..10 */
-
-/* The bit of a rule whose conclusion holds with no premise: a standing fact, with zeros for its premises. */
-#define SCORE_RULE_FACT UINT32_C(0x08000000)
 
 /* The most that a score can have. A longer one is refused with SCORE_LENGTH. */
 #define SCORE_MAX_TOKENS 256
@@ -96,9 +72,9 @@ extern "C" {
  * SCORE_OUTPUT_WORD | token for each output token, rising strictly; a run writes none at status 1 or 2. No bytes is a
  * list, and a journal, of no instants.
  */
-#define SCORE_INSTANT_WORD SCORE_WORD(SCORE_KIND_INSTANT, 0) /* status in bits 1..0, 0 in a list; 3 is no status */
-#define SCORE_INPUT_WORD SCORE_WORD(SCORE_KIND_INPUT, 0)     /* token in bits 7..0 */
-#define SCORE_OUTPUT_WORD SCORE_WORD(SCORE_KIND_OUTPUT, 0)   /* token in bits 7..0 */
+#define SCORE_INSTANT_WORD UINT32_C(0xC0000000) /* status in bits 1..0, which are 0 in a list; status 3 is no status */
+#define SCORE_INPUT_WORD UINT32_C(0xD0000000)   /* token in bits 7..0 */
+#define SCORE_OUTPUT_WORD UINT32_C(0xE0000000)  /* token in bits 7..0 */
 #define SCORE_KIND_MASK UINT32_C(0xF0000000)
 #define SCORE_STATUS_MASK UINT32_C(0x00000003)
 #define SCORE_TOKEN_MASK UINT32_C(0x000000FF)

@@ -1,5 +1,5 @@
-/* answers.c: reads answers, packed here as crates/score_answer/specs/Answer.antt says, and the numbers of states, by
- * the functions of the header; and holds its names for words to document 01.
+/* answers.c: reads answers, packed here as crates/score_answer/specs/Answer.antt says, and the numbers of states, by the
+ * functions of the header.
  */
 #include <stdio.h>
 
@@ -78,25 +78,6 @@ static int reads_numbers(void)
     return right;
 }
 
-/* The kinds in their order, from 1 on, and words as the documents write them. */
-static int names_words(void)
-{
-    static const uint32_t kinds[] = {
-        SCORE_KIND_HEAD,     SCORE_KIND_RULE,    SCORE_KIND_PROCEDURE, SCORE_KIND_SKIP_ABORT, SCORE_KIND_TELL,
-        SCORE_KIND_PARALLEL, SCORE_KIND_WHEN,    SCORE_KIND_NEXT,      SCORE_KIND_UNLESS,     SCORE_KIND_CALL,
-        SCORE_KIND_PORTS,    SCORE_KIND_INSTANT, SCORE_KIND_INPUT,     SCORE_KIND_OUTPUT,     SCORE_KIND_WATCH,
-    };
-    uint32_t i;
-    int right = SCORE_WORD(SCORE_KIND_RULE, 2 << 8 | 3 << 16) == 0x20030200
-             && SCORE_WORD(SCORE_KIND_RULE, SCORE_RULE_FACT | 3) == 0x28000003 && SCORE_INSTANT_WORD == 0xC0000000
-             && SCORE_INPUT_WORD == 0xD0000000 && SCORE_OUTPUT_WORD == 0xE0000000;
-    for (i = 0; i < sizeof kinds / sizeof *kinds; i++)
-        right &= kinds[i] == i + 1 && SCORE_KIND(SCORE_WORD(kinds[i], ~SCORE_KIND_MASK)) == kinds[i];
-    if (!right)
-        printf("a word is named wrongly\n");
-    return right;
-}
-
 int main(void)
 {
     static const uint64_t values[] = {0, 1, 255, 256, 1345, (1 << 24) - 1, 1 << 24, 0x7FFFFFFF, 0x80000000, 0xFFFFFFFE,
@@ -116,5 +97,5 @@ int main(void)
     for (status = SCORE_QUIET; status <= SCORE_ABORTED; status++)
         for (count = 0; count <= SCORE_MAX_AGENTS; count++)
             right &= reads(layout + ((uint64_t)(count * 4 + status) << 32), SCORE_ACCEPTED, 0, status, count);
-    return right & reads_every_count() & reads_numbers() & names_words() ? 0 : 1;
+    return right & reads_every_count() & reads_numbers() ? 0 : 1;
 }

@@ -22,8 +22,11 @@ enum { PAGE = 4096, MOST = 4 * PAGE, FILLER = 0xA5, SECONDS_A_ROUND = 60, ROUNDS
 #define BIT(number) (1u << (number))
 #define UP_TO(number) (2 * BIT(number) - 1)
 
+/* Makes a fact of a rule word. */
+#define FACT BIT(27)
+
 /* Makes a watch of a when. */
-#define WATCH_OF_WHEN SCORE_WORD(SCORE_KIND_WATCH ^ SCORE_KIND_WHEN, 0)
+#define WATCH_OF_WHEN BIT(31)
 
 /* The buffers lent, those of them that may be written, and the numbers that may be answered: 11 never is, since every
  * body is an agent of the score.
@@ -316,7 +319,7 @@ static void require_maps(const struct bytes *of, uint32_t status)
     else
         require_quiet(of);
     for (; word < score->len / 4; word++) {
-        if (!(word_at(score, word) & SCORE_RULE_FACT))
+        if (!(word_at(score, word) & FACT))
             continue;
         require(has_token(&of[STORE], word_at(score, word) & 0xFF), "a fact is not in the store");
         facts_met++;
@@ -521,22 +524,22 @@ static uint32_t agent_word(uint32_t agent, uint32_t tokens, uint32_t procedures,
     uint32_t abort = 1 + (uint32_t)one_in(8), kind = agent ? below(kinds) : 1;
     const uint32_t low[] = {abort, tokens, agent, agent, agent, agent, procedures};
     const uint32_t high[] = {1, 1, agent, tokens, 1, tokens, 1};
-    uint32_t word = SCORE_WORD(SCORE_KIND_SKIP_ABORT + kind, below(low[kind]));
+    uint32_t word = (4 + kind) << 28 | below(low[kind]);
     if (agent && watches && one_in(watches))
-        return SCORE_WORD(SCORE_KIND_WATCH, close_below(agent) | below(tokens) << 10);
+        return 0xF0000000 | close_below(agent) | below(tokens) << 10;
     if (agent && watches && one_in(2))
-        return SCORE_WORD(SCORE_KIND_PARALLEL, close_below(agent) | close_below(agent) << 10);
+        return 0x60000000 | close_below(agent) | close_below(agent) << 10;
     return word | below(high[kind]) << 10;
 }
 
 static uint32_t rule_word(uint32_t tokens, int is_fact)
 {
-    uint32_t fields = 0, i;
+    uint32_t word = 0x20, i;
     if (is_fact)
-        return SCORE_WORD(SCORE_KIND_RULE, SCORE_RULE_FACT | below(tokens));
+        return 0x20000000 | FACT | below(tokens);
     for (i = 0; i < 3; i++)
-        fields = fields << 8 | below(tokens);
-    return SCORE_WORD(SCORE_KIND_RULE, fields);
+        word = word << 8 | below(tokens);
+    return word;
 }
 
 /* A score in its form, or a draft. Large ones call nothing; in small ones unguarded calls may lead back. Half of them
@@ -549,12 +552,12 @@ static void make_score(struct bytes *score, uint32_t watches)
     uint32_t procedures = 1 + below(large ? 64 : 3), rules = below(large ? 257 : 6), times = 1 + below(8);
     int has_facts = one_in(2);
     score->len = 0;
-    push(score, SCORE_WORD(SCORE_KIND_HEAD, (tokens - 1) | (agents - 1) << 8 | (procedures - 1) << 18));
-    push(score, SCORE_WORD(SCORE_KIND_PORTS, lowest | (lowest + below(tokens - lowest)) << 8));
+    push(score, 0x10000000 | (tokens - 1) | (agents - 1) << 8 | (procedures - 1) << 18);
+    push(score, 0xB0000000 | lowest | (lowest + below(tokens - lowest)) << 8);
     for (i = 0; i < agents; i++)
         push(score, agent_word(i, tokens, procedures, large ? 6 : 7, watches));
     for (i = 0; i < procedures; i++)
-        push(score, SCORE_WORD(SCORE_KIND_PROCEDURE, agents - 1 - below((agents + 1) / 2)));
+        push(score, 0x30000000 | (agents - 1 - below((agents + 1) / 2)));
     for (i = 0; i < rules; i++)
         push(score, rule_word(tokens, has_facts && one_in(times)));
 }
@@ -667,7 +670,7 @@ static void splice(struct bytes *bytes, const struct bytes *other)
 static void mutate(struct bytes *bytes, const struct bytes *other)
 {
     size_t len = bytes->len, at = below(len + 1);
-    uint32_t change = one_in(8) ? SCORE_RULE_FACT : one_in(8) ? WATCH_OF_WHEN : below(one_in(2) ? 4 : 1024);
+    uint32_t change = one_in(8) ? FACT : one_in(8) ? WATCH_OF_WHEN : below(one_in(2) ? 4 : 1024);
     switch (below(len < 4 ? 3 : 6)) {
     case 0: make_random(bytes, below(one_in(8) ? MOST : 200)); break;
     case 1: splice(bytes, other); break;
@@ -743,7 +746,7 @@ static int has_watch(const struct bytes *draft)
 {
     size_t word;
     for (word = 2; word < 2 + agents_of(draft); word++)
-        if (SCORE_KIND(word_at(draft, word)) == SCORE_KIND_WATCH)
+        if (word_at(draft, word) >> 28 == 15)
             return 1;
     return 0;
 }

@@ -40,36 +40,30 @@ static void put_word(uint8_t *bytes, size_t word, uint32_t value)
         bytes[SCORE_WORD_BYTES * word + i] = (uint8_t)(value >> 8 * i);
 }
 
-/* Adds a word to the score. */
-static void push(uint32_t kind, uint32_t fields)
-{
-    put_word(score, score_len / SCORE_WORD_BYTES, SCORE_WORD(kind, fields));
-    score_len += SCORE_WORD_BYTES;
-}
-
-/* Head and ports, of which token 0 is the only one. */
-static void begin(uint32_t tokens, uint32_t agents, uint32_t procedures)
-{
-    score_len = 0;
-    push(SCORE_KIND_HEAD, (tokens - 1) | (agents - 1) << 8 | (procedures - 1) << 18);
-    push(SCORE_KIND_PORTS, 0);
-}
-
 /* Every agent is a parallel of the one below it with agent 0, a tell; every procedure has the last one for its root;
  * every rule concludes a token of its own, from the lowest on, which is the clash or not.
  */
 static void build_largest(uint32_t lowest)
 {
-    uint32_t i;
-    begin(SCORE_MAX_TOKENS, SCORE_MAX_AGENTS, SCORE_MAX_PROCEDURES);
-    put_word(score, 1, SCORE_WORD(SCORE_KIND_PORTS, (SCORE_MAX_TOKENS - 1) << 8));
-    push(SCORE_KIND_TELL, 1);
+    uint32_t word = 0, i;
+    put_word(score, word++, 0x10FFFFFF);
+    put_word(score, word++, 0xB000FF00);
+    put_word(score, word++, 0x50000001);
     for (i = 1; i < SCORE_MAX_AGENTS; i++)
-        push(SCORE_KIND_PARALLEL, i - 1);
+        put_word(score, word++, 0x60000000 | (i - 1));
     for (i = 0; i < SCORE_MAX_PROCEDURES; i++)
-        push(SCORE_KIND_PROCEDURE, SCORE_MAX_AGENTS - 1);
+        put_word(score, word++, 0x30000000 | (SCORE_MAX_AGENTS - 1));
     for (i = 0; i < SCORE_MAX_RULES; i++)
-        push(SCORE_KIND_RULE, (i < lowest ? lowest : i) | 1 << 8 | 1 << 16);
+        put_word(score, word++, 0x20010100 | (i < lowest ? lowest : i));
+    score_len = SCORE_WORD_BYTES * word;
+}
+
+/* Head and ports of a draft; the word behind them. */
+static uint32_t begin(uint32_t tokens, uint32_t agents, uint32_t procedures)
+{
+    put_word(score, 0, 0x10000000 | (tokens - 1) | (agents - 1) << 8 | (procedures - 1) << 18);
+    put_word(score, 1, 0xB0000000);
+    return 2;
 }
 
 /* Each procedure calls the next one below whens, or below these and a watch of a token of its own at the root: 1,024
@@ -77,21 +71,21 @@ static void build_largest(uint32_t lowest)
  */
 static void build_chain(int has_watches)
 {
-    uint32_t agent, procedure;
-    begin(SCORE_MAX_TOKENS, SCORE_MAX_AGENTS, SCORE_MAX_PROCEDURES);
+    uint32_t word = begin(SCORE_MAX_TOKENS, SCORE_MAX_AGENTS, SCORE_MAX_PROCEDURES), agent, procedure;
     for (agent = 0; agent < SCORE_MAX_AGENTS; agent++) {
         procedure = agent / 16;
         if (agent % 16 == 0 && procedure + 1 < SCORE_MAX_PROCEDURES)
-            push(SCORE_KIND_CALL, procedure + 1);
+            put_word(score, word++, 0xA0000000 | (procedure + 1));
         else if (agent % 16 == 0)
-            push(SCORE_KIND_SKIP_ABORT, 0);
+            put_word(score, word++, 0x40000000);
         else if (agent % 16 == 15 && has_watches)
-            push(SCORE_KIND_WATCH, (agent - 1) | procedure << 10);
+            put_word(score, word++, 0xF0000000 | (agent - 1) | procedure << 10);
         else
-            push(SCORE_KIND_WHEN, (agent - 1) | 1 << 10);
+            put_word(score, word++, 0x70000000 | (agent - 1) | 1 << 10);
     }
     for (procedure = 0; procedure < SCORE_MAX_PROCEDURES; procedure++)
-        push(SCORE_KIND_PROCEDURE, 16 * procedure + 15);
+        put_word(score, word++, 0x30000000 | (16 * procedure + 15));
+    score_len = SCORE_WORD_BYTES * word;
 }
 
 /* The one procedure leads past 900 watches to a branch for each of so many tokens, where after a next it is called
@@ -100,30 +94,30 @@ static void build_chain(int has_watches)
 static void build_rounds(uint32_t branches)
 {
     enum { WATCHES = 900 };
-    uint32_t agent = 2, i;
-    begin(1 + branches, 2 + 2 * branches + WATCHES, 1);
-    push(SCORE_KIND_CALL, 0);
-    push(SCORE_KIND_NEXT, 0);
+    uint32_t word = begin(1 + branches, 2 + 2 * branches + WATCHES, 1), agent = 2, i;
+    put_word(score, word++, 0xA0000000);
+    put_word(score, word++, 0x80000000);
     for (i = 0; i < branches; i++, agent += 2) {
-        push(SCORE_KIND_WATCH, 1 | (1 + i) << 10);
-        push(SCORE_KIND_PARALLEL, agent | (agent - 1) << 10);
+        put_word(score, word++, 0xF0000001 | (1 + i) << 10);
+        put_word(score, word++, 0x60000000 | agent | (agent - 1) << 10);
     }
     for (i = 0; i < WATCHES; i++, agent++)
-        push(SCORE_KIND_WATCH, agent - 1);
-    push(SCORE_KIND_PROCEDURE, agent - 1);
+        put_word(score, word++, 0xF0000000 | (agent - 1));
+    put_word(score, word++, 0x30000000 | (agent - 1));
+    score_len = SCORE_WORD_BYTES * word;
 }
 
 /* A when on each of 16 tokens, each beside the whens before it. */
 static void build_small(void)
 {
-    uint32_t token;
-    begin(SCORE_MAX_SWITCHES, 2 * SCORE_MAX_SWITCHES + 1, 1);
-    push(SCORE_KIND_SKIP_ABORT, 0);
+    uint32_t word = begin(SCORE_MAX_SWITCHES, 2 * SCORE_MAX_SWITCHES + 1, 1), token;
+    put_word(score, word++, 0x40000000);
     for (token = 0; token < SCORE_MAX_SWITCHES; token++) {
-        push(SCORE_KIND_WHEN, token << 10);
-        push(SCORE_KIND_PARALLEL, 2 * token | (2 * token + 1) << 10);
+        put_word(score, word++, 0x70000000 | token << 10);
+        put_word(score, word++, 0x60000000 | 2 * token | (2 * token + 1) << 10);
     }
-    push(SCORE_KIND_PROCEDURE, 2 * SCORE_MAX_SWITCHES);
+    put_word(score, word++, 0x30000000 | 2 * SCORE_MAX_SWITCHES);
+    score_len = SCORE_WORD_BYTES * word;
 }
 
 /* The start state, but at a number. */

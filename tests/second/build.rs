@@ -5,8 +5,7 @@ use std::{env, path::Path};
 fn main() {
     let named = env::var("SCORE_LIBRARY_DIR").unwrap_or_default();
     let folder = if named.is_empty() { "target/staticlib" } else { &named };
-    let root = Path::new(&env::var("CARGO_MANIFEST_DIR").unwrap()).join("../..");
-    let library = root.join(folder).join("libscore.a");
+    let library = Path::new(env!("CARGO_MANIFEST_DIR")).join("../..").join(folder).join("libscore.a");
     println!("cargo:rerun-if-env-changed=SCORE_LIBRARY_DIR");
     println!("cargo:rerun-if-changed={}", library.display());
     println!("cargo:rustc-link-arg-bins={}", library.display());

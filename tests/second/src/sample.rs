@@ -1,7 +1,5 @@
 //! The document's sample score S.
 
-use crate::lent::{state_bytes, ABORTED, RUNNING};
-
 pub const S: [u32; 9] = [
     0x1000_0403,
     0xB000_0302,
@@ -34,17 +32,5 @@ pub fn faulty() -> [(Vec<u32>, u32, u64); 7] {
         (with(8, 0x2004_0200), 5, 8),
         (with(7, 0x3000_0005), 6, 7),
         (with(5, 0x6000_0801), 7, 0),
-    ]
-}
-
-/// States that meet 9 for S: agents that it has not, an aborted one with an agent, and words 0 that there are not.
-pub fn unlawful_states() -> [Vec<u8>; 6] {
-    [
-        state_bytes(RUNNING, [5]),
-        state_bytes(RUNNING, [4, 1023]),
-        state_bytes(ABORTED, [4]),
-        state_bytes(0xF000_0002, []),
-        state_bytes(0, []),
-        state_bytes(u32::MAX, []),
     ]
 }

@@ -6,7 +6,7 @@ use crate::oracle;
 use crate::random::Random;
 use crate::scenes::Lengths;
 use std::collections::BTreeMap;
-use std::process::{exit, ExitCode};
+use std::process::ExitCode;
 
 /// Nothing, or the difference that was found.
 pub type Outcome = Result<(), String>;
@@ -101,17 +101,8 @@ pub struct Tests {
     failed: u64,
     /// Multiplies the number of generated trials.
     times: u64,
-    /// Whether to look for a first failure and stop there: in a part of each category, as that is quick, then in the
-    /// cases, then in a few parts more.
-    first: bool,
-    /// The cases that are yet to come.
-    waiting: Vec<Case>,
     met: Met,
 }
-
-/// Into how many parts each category is divided where a first failure is looked for, and how many of them are tried.
-const PARTS: u64 = 64;
-const PARTS_TRIED: u64 = 8;
 
 impl Tests {
     fn record(&mut self, name: &str, outcome: Outcome) {
@@ -123,22 +114,12 @@ impl Tests {
             Err(difference) => {
                 println!("failed: {name}: {difference}");
                 self.failed += 1;
-                if self.first {
-                    exit(1);
-                }
             }
         }
     }
 
     pub fn cases(&mut self, cases: Vec<Case>) {
-        self.waiting.extend(cases);
-        if !self.first {
-            self.run_waiting();
-        }
-    }
-
-    fn run_waiting(&mut self) {
-        for (name, run) in std::mem::take(&mut self.waiting) {
+        for (name, run) in cases {
             let outcome = run(&mut self.met);
             self.record(name, outcome);
         }
@@ -150,19 +131,12 @@ impl Tests {
         categories: &[Category<T>],
         judge: impl Fn(&T, &mut Met, &mut Random, u64) -> Outcome,
     ) {
-        let (parts, tried) = if self.first { (PARTS, PARTS_TRIED) } else { (1, 1) };
-        for part in 0..tried {
-            for (number, (name, trials, make)) in categories.iter().enumerate() {
-                let trials = trials * self.times;
-                let outcome = (trials * part / parts..trials * (part + 1) / parts).try_for_each(|index| {
-                    judge(make, &mut self.met, &mut Random::new(number as u64, index), index)
-                        .map_err(|difference| format!("trial {index}: {difference}"))
-                });
-                if part + 1 == tried || outcome.is_err() {
-                    self.record(name, outcome);
-                }
-            }
-            self.run_waiting();
+        for (number, (name, trials, make)) in categories.iter().enumerate() {
+            let outcome = (0..trials * self.times).try_for_each(|index| {
+                judge(make, &mut self.met, &mut Random::new(number as u64, index), index)
+                    .map_err(|difference| format!("trial {index}: {difference}"))
+            });
+            self.record(name, outcome);
         }
     }
 
@@ -210,9 +184,6 @@ impl Tests {
     }
 
     fn require(&mut self, name: &str, met: Option<u64>) {
-        if self.first {
-            return;
-        }
         let met = met.unwrap_or(0);
         let outcome = if met < LEAST_MET { Err(format!("met only {met} times")) } else { Ok(()) };
         self.record(&format!("{name}: met {met} times"), outcome);
@@ -240,17 +211,18 @@ pub fn shown(lent: &impl Lent) -> String {
     lent.buffers().iter().map(|(name, bytes)| format!("\n{name} {}", hex(bytes))).collect()
 }
 
-/// A test program's main function. An argument multiplies the number of generated trials, or is 'first' to stop at the
-/// first failure; else the last line is 'N passed, M failed'.
+/// A test program's main function. An argument multiplies the number of generated trials; the last line is
+/// 'N passed, M failed'.
 pub fn run(test: fn(&mut Tests)) -> ExitCode {
-    let argument = std::env::args().nth(1).unwrap_or("1".into());
-    let first = argument == "first";
-    let times = if first { 1 } else { argument.parse().unwrap_or(0) };
-    if times == 0 {
-        eprintln!("usage: give nothing, by how much to multiply the number of trials, or 'first'");
-        return ExitCode::from(2);
-    }
-    let mut tests = Tests { passed: 0, failed: 0, times, first, waiting: vec![], met: Met::default() };
+    let times = match std::env::args().nth(1).map(|times| times.parse()) {
+        None => 1,
+        Some(Ok(times)) if times > 0 => times,
+        _ => {
+            eprintln!("usage: give nothing, or by how much to multiply the number of trials");
+            return ExitCode::from(2);
+        }
+    };
+    let mut tests = Tests { passed: 0, failed: 0, times, met: Met::default() };
     test(&mut tests);
     println!("{} passed, {} failed", tests.passed, tests.failed);
     if tests.failed == 0 {

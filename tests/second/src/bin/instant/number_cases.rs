@@ -6,7 +6,7 @@ use second::answer::refused;
 use second::calls::InstantLent;
 use second::decoded::Decoded;
 use second::lent::*;
-use second::sample::{faulty, unlawful_states, S};
+use second::sample::{faulty, S};
 use second::scenes::STATE_LENGTHS;
 use second::tests::{case, ensure, Case, Met, Outcome};
 use second::words::*;
@@ -162,7 +162,15 @@ fn before_18() -> Vec<Case> {
             })
         }),
         case("at the last number, an unlawful state: 9, and with a wrong input too", move |met| {
-            unlawful_states().into_iter().try_for_each(|state| {
+            let states = [
+                state_bytes(RUNNING, [5]),
+                state_bytes(RUNNING, [4, 1023]),
+                state_bytes(ABORTED, [4]),
+                state_bytes(0xF000_0002, []),
+                state_bytes(0, []),
+                state_bytes(u32::MAX, []),
+            ];
+            states.into_iter().try_for_each(|state| {
                 turned_down(met, lent(&S, last(state.clone()), &[1]), 9, 0)?;
                 turned_down(met, lent(&S, last(state), &[4]), 9, 0)
             })

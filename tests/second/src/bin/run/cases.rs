@@ -14,7 +14,7 @@ use second::tests::{case, ensure, Case, Met, Outcome};
 use second::words::*;
 
 pub fn all() -> Vec<Case> {
-    [sample(), lists(), aborted(), journals(), facts(), journals_with_facts(), chains::cases(falls), large_values()]
+    [sample(), lists(), aborted(), journals(), facts(), journals_with_facts(), large_values(), chains::cases(falls)]
         .into_iter()
         .flatten()
         .collect()

@@ -7,7 +7,7 @@ use second::generate::one_procedure as score;
 use second::guarded::GUARDS;
 use second::lent::*;
 use second::random::Random;
-use second::sample::{faulty, replaced, unlawful_states, S};
+use second::sample::{faulty, replaced, S};
 use second::scenes::STATE_LENGTHS;
 use second::settings::{binomial, MOST_SWITCHES};
 use second::tests::{case, same_call, Case, Met, Outcome};
@@ -291,7 +291,14 @@ fn order() -> Vec<Case> {
             })
         }),
         case("an unlawful state: 9, before 17", |met| {
-            unlawful_states().into_iter().try_for_each(|state| {
+            let states = [
+                state_bytes(RUNNING, [5]),
+                state_bytes(RUNNING, [4, 1023]),
+                state_bytes(ABORTED, [4]),
+                state_bytes(0xF000_0002, []),
+                state_bytes(0, []),
+            ];
+            states.into_iter().try_for_each(|state| {
                 let right = |k| SettingsLent { state: state.clone(), ..lent(&S, &[], &[1], k) };
                 both(met, &right(0), refused(9, 0))?;
                 both(met, &right(1), refused(9, 0))?;
@@ -342,7 +349,7 @@ fn numbers() -> Vec<Case> {
         }),
         case("an unlawful state at any number: 9", |met| {
             let unlawful = |state| SettingsLent { state, ..lent(&S, &[], &[1], 1) };
-            unlawful_states()
+            [state_bytes(RUNNING, [5]), state_bytes(ABORTED, [4]), state_bytes(0, [])]
                 .into_iter()
                 .try_for_each(|state| at_each_number(met, &unlawful(state), |met, lent| both(met, lent, refused(9, 0))))
         }),
