@@ -87,12 +87,12 @@ standin:
 
 library:
 ifndef SCORE_LIBRARY_DIR
-	rt staticlib score
+	tools/library
 endif
 
 runner:
 ifndef SCORE_LIBRARY_DIR
-	rt check runner
+	tools/runner
 endif
 
 tool: library

@@ -1,4 +1,4 @@
-// The functions exported to C.
+// The functions of the library, as score_c exports them to C.
 ghost use Rattle.instant_call.specs.InstantCall.{lent};
 ghost use Rattle.journal_run.specs.RunCall.{lent as lent_to_run};
 ghost use Rattle.score.specs.CheckCall.{CheckCall};
@@ -9,16 +9,14 @@ ghost use Rattle.score.specs.ScoreSettings.{ScoreSettings};
 ghost use Rattle.score.specs.ScoreTranslate.{ScoreTranslate};
 
 // Checks a score.
-#[unsafe(no_mangle)]
-pub extern "C" fn score_check(score: &[u8]) -> u64
+pub fn score_check(score: &[u8]) -> u64
     ensures { CheckCall score.now result }
 {
     score_answer::of_verdict(check_score::check(score))
 }
 
 // Plays one instant of a score.
-#[unsafe(no_mangle)]
-pub extern "C" fn score_instant(
+pub fn score_instant(
     score: &[u8],
     state: &mut [u8],
     input: &[u8],
@@ -32,8 +30,7 @@ pub extern "C" fn score_instant(
 }
 
 // Runs a score over an input list.
-#[unsafe(no_mangle)]
-pub extern "C" fn score_run(
+pub fn score_run(
     score: &[u8],
     state: &mut [u8],
     inputs: &[u8],
@@ -46,24 +43,21 @@ pub extern "C" fn score_run(
 }
 
 // Checks a journal from the start state.
-#[unsafe(no_mangle)]
-pub extern "C" fn score_journal_check(score: &[u8], journal: &[u8], scratch: &mut [u8]) -> u64
+pub fn score_journal_check(score: &[u8], journal: &[u8], scratch: &mut [u8]) -> u64
     ensures { ScoreJournalCheck score.now journal.now scratch.old scratch.new result }
 {
     score_answer::of_run_reply(journal_check::call(score, journal, scratch))
 }
 
 // Counts how the settings of exactly k switches end, each tried from the same state.
-#[unsafe(no_mangle)]
-pub extern "C" fn score_settings(score: &[u8], state: &[u8], switches: &[u8], k: u32) -> u64
+pub fn score_settings(score: &[u8], state: &[u8], switches: &[u8], k: u32) -> u64
     ensures { ScoreSettings score.now state.now switches.now k result }
 {
     score_answer::of_settings(settings_call::call(score, state, switches, k))
 }
 
 // Translates a draft to a plain score.
-#[unsafe(no_mangle)]
-pub extern "C" fn score_translate(draft: &[u8], plain: &mut [u8]) -> u64
+pub fn score_translate(draft: &[u8], plain: &mut [u8]) -> u64
     ensures { ScoreTranslate draft.now plain.old plain.new result }
 {
     score_answer::of_translation(draft_call::call(draft, plain))
