@@ -21,4 +21,4 @@ awake_unwatched : (d : Draft) (s : List ℕ) (l : List Item) (c : Copy) → Mem�
 awake_unwatched d s l = on_awake (λ c. (t : ℕ) → Memᴰ t c.under → Memᴰ t s → ⊥) d s l (λ i set m e b wakes t at held. true_is_false (some_watched at held) e)
 
 pub stopped_act : StoppedAct
-stopped_act = (λ d s l k. stopped d s, awake_unwatched)
+stopped_act = (λ d s l k i set t. stopped d s i set t, awake_unwatched)
