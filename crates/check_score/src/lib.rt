@@ -1,4 +1,6 @@
 // The score check, rows 1 to 7 in their order; an accepted score is lawful.
+#![tactic(auto)]
+
 ghost use Rattle.std.specs.Prelude.{◌≡◌};
 ghost use Rattle.check_score.specs.Check.{verdict};
 

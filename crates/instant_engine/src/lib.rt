@@ -1,4 +1,6 @@
 // One instant of a playable score: agents and input tokens in; status, count, store and agents awake out.
+#![tactic(auto)]
+
 ghost use Rattle.std.specs.Prelude.{◌≡◌, length};
 ghost use Rattle.tcc.specs.Instant.{instant};
 ghost use Rattle.format.specs.Decode.{decode};
