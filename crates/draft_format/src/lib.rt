@@ -1,4 +1,6 @@
 // The bytes of a draft: its check, and its agents.
+#![tactic(auto)]
+
 ghost use Rattle.std.specs.Prelude.{◌≡◌, ◌+◌, ◌<◌, ◌≤◌, length, take};
 ghost use Rattle.tcc.specs.Limits.{most_agents};
 ghost use Rattle.words.specs.Word.{words};

@@ -1,4 +1,6 @@
 // The plain score of a draft: the pairs that it is made of, and what it is; definitions and theorems, no bytes.
+#![tactic(auto)]
+
 use check_verdicts::Verdict;
 
 // What a translation comes to.

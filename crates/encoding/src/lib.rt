@@ -1,4 +1,6 @@
 // A score written: the words of its head, its agents, its procedures and its rules, built by shifts.
+#![tactic(auto)]
+
 ghost use Rattle.std.specs.Prelude.{◌≡◌, ℕ, ◌+◌, ◌*◌, ◌^◌, ◌<◌, ◌≤◌};
 ghost use mathlib.Core.List.{Memᴰ, [], ◌∷◌};
 ghost use Rattle.tcc.specs.Limits.{most_tokens, most_agents, most_procedures};

@@ -1,4 +1,6 @@
 // The buffers of an instant call: their lengths, and an answer handed over to them.
+#![tactic(auto)]
+
 ghost use Rattle.std.specs.Prelude.{◌≡◌, cond, ◌||◌, not, eqb};
 ghost use Rattle.instant_prepared.specs.Prepared.{PreparedFrom};
 ghost use Rattle.format.specs.Decode.{sizes, decode};

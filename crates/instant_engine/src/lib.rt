@@ -14,7 +14,7 @@ use flags::{Agents, Tokens};
 use instant_prepared::Prepared;
 
 // What the engine returns of an instant.
-#[derive(Drop)]
+#[derive(Clone, Copy)]
 pub struct Outcome {
     pub status: usize,
     pub count: usize,

@@ -1,4 +1,6 @@
 // Where a score stands between instants: read from a state, answered from, written to a state; what goes to the ports.
+#![tactic(auto)]
+
 ghost use Rattle.std.specs.Prelude.{◌≡◌, false, ◌&&◌, not, ◌++◌, ℕ, ◌<◌, ◌≤◌, eqb, leb, length, get_or, drop};
 ghost use Rattle.tcc.specs.Instant.{output, answer};
 ghost use Rattle.instant_prepared.specs.Prepared.{PreparedFrom};
@@ -15,7 +17,7 @@ use instant_engine::Outcome;
 use instant_prepared::Prepared;
 
 // Where a score stands between two instants.
-#[derive(Drop)]
+#[derive(Clone, Copy)]
 pub struct Standing {
     pub running: bool,
     pub awake: Agents,

@@ -40,7 +40,7 @@ struct Taken {
 }
 
 // The end of a run: why it stopped, the instants written, where the score stands, and at which number.
-#[derive(Drop)]
+#[derive(Clone, Copy)]
 pub struct Ended {
     pub stop: Stop,
     pub instants: usize,

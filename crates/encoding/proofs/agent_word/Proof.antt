@@ -19,77 +19,77 @@ named of {n = n} within e m = within n (subst⁻¹ (λ a. Memᴰ n (of a)) e m)
 told : {agent is : Agent} {w : ℕ} → agent ≡ is → w ≡ agent_word is → w ≡ agent_word agent
 told e same = same ∙ ap agent_word (sym e)
 
-enum_told : tie.Need-enum-told
+enum_told : tie.Need-enum_told-1
 enum_told c = search rules
 
-word_of_requires : tie.Need-word-of-requires
+word_of_requires : tie.Need-word_of-requires
 word_of_requires c κs = search rules
 
-enum_told_2 : tie.Need-enum-told-2
+enum_told_2 : tie.Need-enum_told-in-Abort
 enum_told_2 c = search rules
 
-word_of_requires_2 : tie.Need-word-of-requires-2
+word_of_requires_2 : tie.Need-word_of-requires-in-Abort
 word_of_requires_2 c κs = search rules
 
-enum_known_agent : tie.Need-enum-known-agent
+enum_known_agent : tie.Need-enum_known-agent
 enum_known_agent c = search rules
 
-word_of_requires_3 : tie.Need-word-of-requires-3
-word_of_requires_3 c κs = omega (arith, named tokens_of c.before.before.before.requires.0 c.before.agent.given.1 (Memᴰ.head refl))
+word_of_requires_3 : tie.Need-word_of-requires-in-Tell
+word_of_requires_3 c κs = omega (arith, named tokens_of c.requires.0 c.in-Tell.is (Memᴰ.head refl))
 
-enum_known_agent_2 : tie.Need-enum-known-agent-2
+enum_known_agent_2 : tie.Need-enum_known-agent-in-Parallel-1
 enum_known_agent_2 c = search rules
 
-word_of_requires_4 : tie.Need-word-of-requires-4
-word_of_requires_4 c κs = omega (arith, named parts_of c.before.before.before.requires.1.0 c.before.agent2.given.1 (Memᴰ.head refl), named parts_of c.before.before.before.requires.1.0 c.before.agent2.given.1 (Memᴰ.tail (Memᴰ.head refl)))
+word_of_requires_4 : tie.Need-word_of-requires-in-Parallel
+word_of_requires_4 c κs = omega (arith, named parts_of c.requires.1.0 c.in-Parallel.is (Memᴰ.head refl), named parts_of c.requires.1.0 c.in-Parallel.is (Memᴰ.tail (Memᴰ.head refl)))
 
-enum_known_agent_3 : tie.Need-enum-known-agent-3
+enum_known_agent_3 : tie.Need-enum_known-agent-in-When-1
 enum_known_agent_3 c = search rules
 
-word_of_requires_5 : tie.Need-word-of-requires-5
-word_of_requires_5 c κs = omega (arith, named tokens_of c.before.before.before.requires.0 c.before.agent3.given.1 (Memᴰ.head refl), named parts_of c.before.before.before.requires.1.0 c.before.agent3.given.1 (Memᴰ.head refl))
+word_of_requires_5 : tie.Need-word_of-requires-in-When
+word_of_requires_5 c κs = omega (arith, named tokens_of c.requires.0 c.in-When.is (Memᴰ.head refl), named parts_of c.requires.1.0 c.in-When.is (Memᴰ.head refl))
 
-enum_known_agent_4 : tie.Need-enum-known-agent-4
+enum_known_agent_4 : tie.Need-enum_known-agent-in-Next-1
 enum_known_agent_4 c = search rules
 
-word_of_requires_6 : tie.Need-word-of-requires-6
-word_of_requires_6 c κs = omega (arith, named parts_of c.before.before.before.requires.1.0 c.before.agent4.given.1 (Memᴰ.head refl))
+word_of_requires_6 : tie.Need-word_of-requires-in-Next
+word_of_requires_6 c κs = omega (arith, named parts_of c.requires.1.0 c.in-Next.is (Memᴰ.head refl))
 
-enum_known_agent_5 : tie.Need-enum-known-agent-5
+enum_known_agent_5 : tie.Need-enum_known-agent-in-Unless-1
 enum_known_agent_5 c = search rules
 
-word_of_requires_7 : tie.Need-word-of-requires-7
-word_of_requires_7 c κs = omega (arith, named tokens_of c.before.before.before.requires.0 c.before.agent5.given.1 (Memᴰ.head refl), named parts_of c.before.before.before.requires.1.0 c.before.agent5.given.1 (Memᴰ.head refl))
+word_of_requires_7 : tie.Need-word_of-requires-in-Unless
+word_of_requires_7 c κs = omega (arith, named tokens_of c.requires.0 c.in-Unless.is (Memᴰ.head refl), named parts_of c.requires.1.0 c.in-Unless.is (Memᴰ.head refl))
 
-enum_known_agent_6 : tie.Need-enum-known-agent-6
+enum_known_agent_6 : tie.Need-enum_known-agent-in-Call-1
 enum_known_agent_6 c = search rules
 
-word_of_requires_8 : tie.Need-word-of-requires-8
-word_of_requires_8 c κs = omega (arith, named procedures_of c.before.before.before.requires.1.1 c.before.agent6.given.1 (Memᴰ.head refl))
+word_of_requires_8 : tie.Need-word_of-requires-in-Call
+word_of_requires_8 c κs = omega (arith, named procedures_of c.requires.1.1 c.in-Call.is (Memᴰ.head refl))
 
-returns : tie.Need-returns
-returns c = told c.before.enum_told.given.1 (omega arith)
+returns : tie.Need-returns-in-Skip
+returns c = told c.in-Skip.is (omega arith)
 
-returns_2 : tie.Need-returns-2
-returns_2 c = told c.before.enum-told2.given.1 (omega arith)
+returns_2 : tie.Need-returns-in-Abort
+returns_2 c = told c.in-Abort.is (omega arith)
 
-returns_3 : tie.Need-returns-3
-returns_3 c = told c.before.before.agent.given.1 (omega arith)
+returns_3 : tie.Need-returns-in-Tell
+returns_3 c = told c.in-Tell.is (omega arith)
 
-returns_4 : tie.Need-returns-4
-returns_4 c = told c.before.before.agent2.given.1 (omega arith)
+returns_4 : tie.Need-returns-in-Parallel
+returns_4 c = told c.in-Parallel.is (omega arith)
 
-returns_5 : tie.Need-returns-5
-returns_5 c = told c.before.before.agent3.given.1 (omega arith)
+returns_5 : tie.Need-returns-in-When
+returns_5 c = told c.in-When.is (omega arith)
 
-returns_6 : tie.Need-returns-6
-returns_6 c = told c.before.before.agent4.given.1 (omega arith)
+returns_6 : tie.Need-returns-in-Next
+returns_6 c = told c.in-Next.is (omega arith)
 
-returns_7 : tie.Need-returns-7
-returns_7 c = told c.before.before.agent5.given.1 (omega arith)
+returns_7 : tie.Need-returns-in-Unless
+returns_7 c = told c.in-Unless.is (omega arith)
 
-returns_8 : tie.Need-returns-8
-returns_8 c = told c.before.before.agent6.given.1 (omega arith)
+returns_8 : tie.Need-returns-in-Call
+returns_8 c = told c.in-Call.is (omega arith)
 
 pub agent_word_spec : {M : Type 1} → statement M
 agent_word_spec =

@@ -3,7 +3,7 @@ use native.Mathlib.Omega.{arith}
 use Rattle.encoding.proofs.member_word.Statement.{statement}
 use Rattle.encoding.proofs.member_word.Tie as tie
 
-rule_word_requires : tie.Need-rule-word-requires
+rule_word_requires : tie.Need-rule_word-requires
 rule_word_requires c κs = omega arith
 
 returns : tie.Need-returns

@@ -3,7 +3,7 @@ use native.Mathlib.Omega.{arith}
 use Rattle.encoding.proofs.root_word.Statement.{statement}
 use Rattle.encoding.proofs.root_word.Tie as tie
 
-word_of_requires : tie.Need-word-of-requires
+word_of_requires : tie.Need-word_of-requires
 word_of_requires c κs = omega arith
 
 returns : tie.Need-returns

@@ -4,13 +4,13 @@ use native.Mathlib.Omega.{arith}
 use Rattle.encoding.proofs.rule_word.Statement.{statement}
 use Rattle.encoding.proofs.rule_word.Tie as tie
 
-mul_word_of : tie.Need-overflow-mul-word-of
+mul_word_of : tie.Need-overflow_mul-second
 mul_word_of c = search rules
 
-add_word_of : tie.Need-overflow-add-word-of
+add_word_of : tie.Need-overflow_add-first
 add_word_of c = search rules
 
-word_of_requires : tie.Need-word-of-requires
+word_of_requires : tie.Need-word_of-requires
 word_of_requires c κs = omega arith
 
 returns : tie.Need-returns

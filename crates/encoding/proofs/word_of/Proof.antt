@@ -9,13 +9,13 @@ use Rattle.encoding.proofs.Shifts.{or_above}
 use Rattle.encoding.proofs.word_of.Statement.{statement}
 use Rattle.encoding.proofs.word_of.Tie as tie
 
-cast_result : tie.Need-overflow-cast-result
+cast_result : tie.Need-overflow_cast-result
 cast_result c = search rules
 
-cast_result_2 : tie.Need-overflow-cast-result-2
+cast_result_2 : tie.Need-overflow_cast-result-2
 cast_result_2 c = omega (arith, le-mul_of_pos_right c.args.high (pow_pos c.args.at))
 
-shl_result : tie.Need-overflow-shl-result
+shl_result : tie.Need-overflow_shl-result
 shl_result c = search rules
 
 returns : tie.Need-returns

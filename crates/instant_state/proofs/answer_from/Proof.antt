@@ -32,19 +32,19 @@ aborted_answer_lem sc s inputs e = ap (λ b. answer sc (cond b (running (set_of 
 play_requires : tie.Need-play-requires
 play_requires c κs = search rules
 
-same_length : tie.Need-same-length
-same_length c = ap length (c.before.before.play.ensures.1 ∙ sym c.before.before.before.before.before.before.before.before.requires.1)
+same_length : tie.Need-shape_of-scratch
+same_length c = ap length (c.play.ensures.1 ∙ sym c.requires.1)
 
-returns : tie.Need-returns
+returns : tie.Need-returns-then-standing
 returns c =
-    let b = c.before.before.before.before.before.before.before.before in
-    let played = c.before.before.play.ensures in
-    (played.0 ∙ sym (ap outcome_of (running_answer (decode b.args.score.now) b.args.standing (set_of b.args.inputs) c.before.before.before.before.if1.true)), played.1)
+    let b = c in
+    let played = c.play.ensures in
+    (played.0 ∙ sym (ap outcome_of (running_answer (decode b.args.score.now) b.args.standing (set_of b.args.inputs) c.if-standing.true)), played.1)
 
-returns_2 : tie.Need-returns-2
+returns_2 : tie.Need-returns-else-standing
 returns_2 c =
-    let b = c.before.before.before.before in
-    (none_outcome ∙ sym (ap outcome_of (aborted_answer_lem (decode b.args.score.now) b.args.standing (set_of b.args.inputs) c.if1.false)), b.requires.1)
+    let b = c in
+    (none_outcome ∙ sym (ap outcome_of (aborted_answer_lem (decode b.args.score.now) b.args.standing (set_of b.args.inputs) c.if-standing.false)), b.requires.1)
 
 pub answer_from_spec : {M : Type 1} → statement M
 answer_from_spec = tie.close (tie.spec play_requires same_length returns returns_2)

@@ -10,7 +10,7 @@ stands : (o : Outcome) → (not (eqb o.status 2) ≡ not (eqb o.status 2)) × (o
 stands o = (refl, refl)
 
 returns : tie.Need-returns
-returns c = stands c.before.before.args.outcome
+returns c = stands c.args.outcome
 
 pub standing_after_spec : {M : Type 1} → statement M
 standing_after_spec = tie.close (tie.spec returns)

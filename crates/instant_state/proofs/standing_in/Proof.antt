@@ -12,15 +12,15 @@ use Rattle.instant_state.specs.Standing.{standing_in}
 use Rattle.instant_state.proofs.standing_in.Statement.{statement}
 use Rattle.instant_state.proofs.standing_in.Tie as tie
 
-word_at_requires : tie.Need-word-at-requires
-word_at_requires c κs = omega (arith, words_length c.before.args.state.now, c.before.requires)
+word_at_requires : tie.Need-word_at-running-requires
+word_at_requires c κs = omega (arith, words_length c.args.state.now, c.requires)
 
-read_agents_requires : tie.Need-read-agents-requires
+read_agents_requires : tie.Need-read_agents-awake-requires
 read_agents_requires c κs = search rules
 
 returns : tie.Need-returns
 unfolding standing_in
-returns c = ap₂ (λ (w : ℕ) (l : List Bool). record { running = not (eqb w aborted_word); awake = l }) c.before.word_at.ensures c.read-agents.ensures
+returns c = ap₂ (λ (w : ℕ) (l : List Bool). record { running = not (eqb w aborted_word); awake = l }) c.word_at-running.ensures c.read_agents-awake.ensures
 
 pub standing_in_spec : {M : Type 1} → statement M
 standing_in_spec =

@@ -58,49 +58,49 @@ sent_all lowest t highest store i e = go (dec_lt i t)
     go (yes h) = rw (lt-ltb i t h, le-leb i highest (omega arith))
     go (no h) = rw (le-ltb i t (omega arith), lt-leb i highest (omega arith))
 
-abbrev invariant-loop : tie.invariant-loop
-invariant-loop lowest highest store out₀ t₀ out t = (length out ≡ 256) × (lowest ≤ t) × (t ≤ highest + 1) × ((i : ℕ) → get_or out i false ≡ sent lowest t store i)
+abbrev invariant-loop-t : tie.invariant-loop-t
+invariant-loop-t lowest highest store out₀ t₀ out t = (length out ≡ 256) × (lowest ≤ t) × (t ≤ highest + 1) × ((i : ℕ) → get_or out i false ≡ sent lowest t store i)
 
-abbrev decreases-loop : tie.decreases-loop
-decreases-loop lowest highest store out₀ t₀ out t = highest + 1 - t
+abbrev decreases-loop-t : tie.decreases-loop-t
+decreases-loop-t lowest highest store out₀ t₀ out t = highest + 1 - t
 
-loop_holds : tie.Need-loop-init invariant-loop decreases-loop
-loop_holds c = (length-replicate 256 false, search rules, omega arith, λ i. none 256 i ∙ sym (sent_none c.args.lowest c.args.t1 i))
+loop_holds : tie.Need-loop-t-init invariant-loop-t decreases-loop-t
+loop_holds c = (length-replicate 256 false, search rules, omega arith, λ i. none 256 i ∙ sym (sent_none c.args.lowest c.args.store i))
 
-array_read_out : tie.Need-array-read-out invariant-loop decreases-loop
+array_read_out : tie.Need-bounds-store-t invariant-loop-t decreases-loop-t
 array_read_out c = omega arith
 
-array_write_out : tie.Need-array-write-out invariant-loop decreases-loop
+array_write_out : tie.Need-bounds-out-t invariant-loop-t decreases-loop-t
 array_write_out c = omega arith
 
-add_t : tie.Need-overflow-add-t invariant-loop decreases-loop
+add_t : tie.Need-overflow_add-t invariant-loop-t decreases-loop-t
 add_t c = omega arith
 
-loop_less : tie.Need-loop-smaller invariant-loop decreases-loop
+loop_less : tie.Need-loop-t-smaller invariant-loop-t decreases-loop-t
 loop_less c = omega arith
 
-loop_again : tie.Need-loop-preserved invariant-loop decreases-loop
+loop_again : tie.Need-loop-t-preserved invariant-loop-t decreases-loop-t
 loop_again c =
-    let h = c.before.loop.invariant in (
-      length-set c.before.loop.out c.before.loop.t _ ∙ h.0,
+    let h = c.loop-t.invariant in (
+      length-set c.loop-t.out c.loop-t.t _ ∙ h.0,
       omega arith,
       omega arith,
-      sent_more c.before.before.args.lowest c.before.loop.t c.before.before.args.t1 c.before.loop.out h.1 (omega arith) h.3,
+      sent_more c.args.lowest c.loop-t.t c.args.store c.loop-t.out h.1 (omega arith) h.3,
     )
 
-returns : tie.Need-returns invariant-loop decreases-loop
+returns : tie.Need-returns invariant-loop-t decreases-loop-t
 returns c =
-    let e : c.before.loop.t ≡ c.before.before.args.highest + 1 = omega arith in (
-      λ i. c.before.loop.invariant.3 i ∙ sent_all c.before.before.args.lowest c.before.loop.t c.before.before.args.highest c.before.before.args.t1 i e,
-      c.before.loop.invariant.0,
+    let e : c.loop-t.t ≡ c.args.highest + 1 = omega arith in (
+      λ i. c.loop-t.invariant.3 i ∙ sent_all c.args.lowest c.loop-t.t c.args.highest c.args.store i e,
+      c.loop-t.invariant.0,
     )
 
 pub to_ports_spec : {M : Type 1} → statement M
 to_ports_spec =
     tie.close
     (tie.spec
-    invariant-loop
-    decreases-loop
+    invariant-loop-t
+    decreases-loop-t
     loop_holds
     array_read_out
     array_write_out

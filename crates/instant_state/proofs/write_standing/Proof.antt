@@ -9,28 +9,28 @@ use Rattle.instant_state.proofs.write_standing.Statement.{statement}
 use Rattle.instant_state.proofs.write_standing.Tie as tie
 
 -- Stations of the walk, each from a later place.
-abbrev to_start : tie.After-write-unnumbered → tie.Start
+abbrev to_start : tie.After-write_unnumbered → tie.Start
 to_start c = c.before.before.before
 
-abbrev to_unnumbered : tie.After-slice-known3 → tie.After-write-unnumbered
+abbrev to_unnumbered : tie.After-slice_known-3-1 → tie.After-write_unnumbered
 to_unnumbered c = c.before.before.before.before.before.before
 
-write_unnumbered_requires : tie.Need-write-unnumbered-requires
-write_unnumbered_requires c κs = let b = c.before.before in (omega (arith, b.requires.0), b.requires.1)
+write_unnumbered_requires : tie.Need-write_unnumbered-requires
+write_unnumbered_requires c κs = let b = c in (omega (arith, b.requires.0), b.requires.1)
 
-write_number_requires : tie.Need-write-number-requires
+write_number_requires : tie.Need-write_number-requires
 write_number_requires c κs = search rules
 
-same_length : tie.Need-same-length
+same_length : tie.Need-shape_of-state
 same_length c = search rules
 
 returns : tie.Need-returns
 returns c =
     let at-unnumbered = to_unnumbered c in
     let a = (to_start at-unnumbered).args in
-    let s = at-unnumbered.write-unnumbered in
-    let t = c.before.before.write-number in
-    numbered_put (state_in a.standing) a.number (drop unnumbered_bytes a.state.now) s.last.0 t.new.0 s.ensures t.ensures
+    let s = at-unnumbered.write_unnumbered in
+    let t = c.write_number in
+    numbered_put (state_in a.standing) a.number (drop unnumbered_bytes a.state.now) s.new.state t.new.state s.ensures t.ensures
 
 pub write_standing_spec : {M : Type 1} → statement M
 write_standing_spec =

@@ -45,31 +45,31 @@ awake_known n s e l i h = go (get_or s.awake i false) refl
 none_known : (i : ℕ) → get_or (replicate 1024 false) i false ≡ false
 none_known i = ap (λ l. get_or l i false) (flags_none 1024) ∙ flags_known 1024 0 [] (λ j m. elim m [ ]) i (omega arith)
 
-write_unnumbered_requires : tie.Need-write-unnumbered-requires
+write_unnumbered_requires : tie.Need-write_unnumbered-requires
 write_unnumbered_requires c κs =
-    let b = c.before.before.before.before in
-    (b.requires.0, awake_known b.args.agents b.args.standing c.before.if1.true b.requires.1)
+    let b = c in
+    (b.requires.0, awake_known b.args.agents b.args.standing c.if-standing.true b.requires.1)
 
-same_length : tie.Need-same-length
+same_length : tie.Need-shape_of-state-then-standing
 same_length c = search rules
 
-returns : tie.Need-returns
+returns : tie.Need-returns-then-standing
 returns c =
-    let a = c.before.before.before.before.before.before.before.args in
-    let t = c.before.before.write-unnumbered in
-    running_bytes a.standing (drop unnumbered_bytes a.state.now) t.new.0 c.before.before.before.before.if1.true t.ensures
+    let a = c.args in
+    let t = c.write_unnumbered in
+    running_bytes a.standing (drop unnumbered_bytes a.state.now) t.new.state c.if-standing.true t.ensures
 
-write_unnumbered_requires_2 : tie.Need-write-unnumbered-requires-2
-write_unnumbered_requires_2 c κs = (c.before.before.before.before.requires.0, λ i h. none_known i)
+write_unnumbered_requires_2 : tie.Need-write_unnumbered-requires-2
+write_unnumbered_requires_2 c κs = (c.requires.0, λ i h. none_known i)
 
-same_length_2 : tie.Need-same-length-2
+same_length_2 : tie.Need-shape_of-state
 same_length_2 c = search rules
 
-returns_2 : tie.Need-returns-2
+returns_2 : tie.Need-returns
 returns_2 c =
-    let a = c.before.before.before.before.before.before.before.args in
-    let t = c.before.before.write-unnumbered2 in
-    aborted_bytes a.standing (drop unnumbered_bytes a.state.now) t.new.0 c.before.before.before.before.if1.false t.ensures
+    let a = c.args in
+    let t = c.write_unnumbered-2 in
+    aborted_bytes a.standing (drop unnumbered_bytes a.state.now) t.new.state c.if-standing.false t.ensures
 
 pub write_unnumbered_spec : {M : Type 1} → statement M
 write_unnumbered_spec =
