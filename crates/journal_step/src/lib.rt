@@ -1,4 +1,6 @@
 // What a run and a journal check share: their replies, the start state, an instant from where a score stands.
+#![tactic(auto)]
+
 ghost use Rattle.std.specs.Prelude.{◌≡◌, false, ℕ, ◌≤◌, length, get_or};
 ghost use Rattle.tcc.specs.Instant.{start_state, answer};
 ghost use Rattle.instant_prepared.specs.Prepared.{PreparedFrom};

@@ -34,38 +34,38 @@ by_length : (s : List ℕ) → length_verdict (length s) ≡ Length → Length �
 unfolding verdict
 by_length s e = rw (ap length_verdict (as_whens_length s) ∙ e)
 
-agents_are : (c : tie.After-sizes-of) → c.sizes-of.result.agents ≡ (sizes c.before.before.before.before.before.args.draft.now).agents
-agents_are c = ap (λ h. h.agents) (c.sizes-of.ensures ∙ ap sizes_of c.before.word_at.ensures)
+agents_are : (c : tie.After-sizes_of-sizes) → c.sizes_of-sizes.result.agents ≡ (sizes c.args.draft.now).agents
+agents_are c = ap (λ h. h.agents) (c.sizes_of-sizes.ensures ∙ ap sizes_of c.word_at.ensures)
 
-returns : tie.Need-returns
-returns c = let s = c.before.before.args.draft.now in by_length s (short (length s) (omega arith))
+returns : tie.Need-returns-then-count-lt4
+returns c = let s = c.args.draft.now in by_length s (short (length s) (omega arith))
 
-returns_2 : tie.Need-returns-2
-returns_2 c = let s = c.before.before.before.args.draft.now in by_length s (long (length s) (omega arith))
+returns_2 : tie.Need-returns-then-count-gt-MOST_BYTES
+returns_2 c = let s = c.args.draft.now in by_length s (long (length s) (omega arith))
 
-word_at_requires : tie.Need-word-at-requires
-word_at_requires c κs = omega (arith, words_length c.before.before.before.args.draft.now)
+word_at_requires : tie.Need-word_at-requires
+word_at_requires c κs = omega (arith, words_length c.args.draft.now)
 
-sizes_of_requires : tie.Need-sizes-of-requires
+sizes_of_requires : tie.Need-sizes_of-sizes-requires
 sizes_of_requires c κs = search rules
 
-slice_aggregate_read_as_whens : tie.Need-slice-aggregate-read-as-whens
+slice_aggregate_read_as_whens : tie.Need-slice_bounds-read_as_whens-end
 slice_aggregate_read_as_whens c = search rules
 
-read_as_whens_requires : tie.Need-read-as-whens-requires
+read_as_whens_requires : tie.Need-read_as_whens-requires
 read_as_whens_requires c κs =
-    let s = c.before.before.before.before.before.before.args.draft.now in
+    let s = c.args.draft.now in
     let e = agents_are c.before in
     (e, (omega (arith, e, sizes_few s), omega arith))
 
-slice_aggregate_check_part : tie.Need-slice-aggregate-check-part
+slice_aggregate_check_part : tie.Need-slice_bounds-check_part-end
 slice_aggregate_check_part c = search rules
 
-check_part_requires : tie.Need-check-part-requires
+check_part_requires : tie.Need-check_part-requires
 check_part_requires c κs = search rules
 
-returns_3 : tie.Need-returns-3
-returns_3 c = c.check-part.ensures ∙ ap verdict c.before.before.before.read-as-whens.ensures
+returns_3 : tie.Need-returns
+returns_3 c = c.check_part.ensures ∙ ap verdict c.read_as_whens.ensures
 
 pub check_spec : {M : Type 1} → statement M
 check_spec =

@@ -5,8 +5,8 @@ use lib.Seq.{length-take-le}
 use Rattle.draft_format.proofs.check_part.Statement.{statement}
 use Rattle.draft_format.proofs.check_part.Tie as tie
 
-slice_aggregate_check : tie.Need-slice-aggregate-check
-slice_aggregate_check c = let b = c.before.before in sym (length-take-le b.args.count b.args.bytes.now b.requires)
+slice_aggregate_check : tie.Need-slice_bounds-check-end
+slice_aggregate_check c = let b = c in sym (length-take-le b.args.count b.args.bytes.now b.requires)
 
 check_requires : tie.Need-check-requires
 check_requires c κs = search rules

@@ -11,56 +11,56 @@ use Rattle.draft_format.proofs.AsWhens.{as_whens_filled}
 use Rattle.draft_format.proofs.read_as_whens.Statement.{statement}
 use Rattle.draft_format.proofs.read_as_whens.Tie as tie
 
-abbrev invariant-loop : tie.invariant-loop
-invariant-loop draft agents whens₀ n₀ whens n =
+abbrev invariant-loop-n : tie.invariant-loop-n
+invariant-loop-n draft agents whens₀ n₀ whens n =
     (n ≤ length draft) × (length whens ≡ length whens₀) × ((j : ℕ) → j < n → get_or whens j 0 ≡ when_byte agents j (get_or draft j 0))
 
-abbrev decreases-loop : tie.decreases-loop
-decreases-loop draft agents whens₀ n₀ whens n = length draft - n
+abbrev decreases-loop-n : tie.decreases-loop-n
+decreases-loop-n draft agents whens₀ n₀ whens n = length draft - n
 
-loop_holds : tie.Need-loop-init invariant-loop decreases-loop
+loop_holds : tie.Need-loop-n-init invariant-loop-n decreases-loop-n
 loop_holds c = (search rules, search rules, λ j lt. absurd (omega arith))
 
-shared_slice_read_when_byte : tie.Need-shared-slice-read-when-byte invariant-loop decreases-loop
+shared_slice_read_when_byte : tie.Need-bounds-draft-n invariant-loop-n decreases-loop-n
 shared_slice_read_when_byte c = search rules
 
-when_byte_requires : tie.Need-when-byte-requires invariant-loop decreases-loop
+when_byte_requires : tie.Need-when_byte-requires invariant-loop-n decreases-loop-n
 when_byte_requires c κs = search rules
 
-slice_write_whens : tie.Need-slice-write-whens invariant-loop decreases-loop
+slice_write_whens : tie.Need-bounds-whens-n invariant-loop-n decreases-loop-n
 slice_write_whens c = search rules
 
-add_n : tie.Need-overflow-add-n invariant-loop decreases-loop
+add_n : tie.Need-overflow_add-n invariant-loop-n decreases-loop-n
 add_n c = search rules
 
-loop_less : tie.Need-loop-smaller invariant-loop decreases-loop
+loop_less : tie.Need-loop-n-smaller invariant-loop-n decreases-loop-n
 loop_less c = search rules
 
-loop_again : tie.Need-loop-preserved invariant-loop decreases-loop
+loop_again : tie.Need-loop-n-preserved invariant-loop-n decreases-loop-n
 loop_again c =
-    let start = c.before.before.before.before.before.before.args in
-    let l = c.before.before.before.loop in (
+    let start = c.args in
+    let l = c.loop-n in (
       search rules,
       simp length-set (omega arith),
-      filled_more (λ j b. b ≡ when_byte start.agents j (get_or start.draft.now j 0)) l.whens l.n c.when-byte.result 0 (omega arith) l.invariant.2 c.when-byte.ensures,
+      filled_more (λ j b. b ≡ when_byte start.agents j (get_or start.draft.now j 0)) l.whens l.n c.when_byte.result 0 (omega arith) l.invariant.2 c.when_byte.ensures,
     )
 
-same_length : tie.Need-same-length invariant-loop decreases-loop
+same_length : tie.Need-shape_of-whens invariant-loop-n decreases-loop-n
 same_length c = search rules
 
-returns : tie.Need-returns invariant-loop decreases-loop
+returns : tie.Need-returns invariant-loop-n decreases-loop-n
 returns c =
-    let s = c.before.before.before.before.args.draft.now in
-    let l = c.before.loop in
-    let read : ((j : ℕ) → j < length s → get_or l.whens j 0 ≡ when_byte (sizes s).agents j (get_or s j 0)) = λ j lt. l.invariant.2 j (omega arith) ∙ ap (λ a. when_byte a j (get_or s j 0)) c.before.before.before.before.requires.0 in
+    let s = c.args.draft.now in
+    let l = c.loop-n in
+    let read : ((j : ℕ) → j < length s → get_or l.whens j 0 ≡ when_byte (sizes s).agents j (get_or s j 0)) = λ j lt. l.invariant.2 j (omega arith) ∙ ap (λ a. when_byte a j (get_or s j 0)) c.requires.0 in
     as_whens_filled s l.whens (omega arith) read
 
 pub read_as_whens_spec : {M : Type 1} → statement M
 read_as_whens_spec =
     tie.close
     (tie.spec
-    invariant-loop
-    decreases-loop
+    invariant-loop-n
+    decreases-loop-n
     loop_holds
     shared_slice_read_when_byte
     when_byte_requires
