@@ -1,4 +1,6 @@
 // The journal check over lent buffers, numbers 1 to 8 and 11 to 14.
+#![tactic(auto)]
+
 ghost use Rattle.std.specs.Prelude.{◌≡◌, false, true, not, ◌<◌, length};
 ghost use Rattle.tcc.specs.Instant.{answer};
 ghost use Rattle.words.specs.Word.{words};

@@ -1,4 +1,6 @@
 // The count of settings over lent buffers, numbers 1 to 9 and 17.
+#![tactic(auto)]
+
 ghost use Rattle.settings_call.specs.SettingsCall.{SettingsCall};
 
 use check_verdicts::Verdict;

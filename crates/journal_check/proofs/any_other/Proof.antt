@@ -7,44 +7,44 @@ use Rattle.journal_check.proofs.Others.{Told, told_none, told_more, told_all}
 use Rattle.journal_check.proofs.any_other.Statement.{statement}
 use Rattle.journal_check.proofs.any_other.Tie as tie
 
-abbrev invariant-loop : tie.invariant-loop
-invariant-loop a b found₀ t₀ found t = Told a b t found
+abbrev invariant-loop-t : tie.invariant-loop-t
+invariant-loop-t a b found₀ t₀ found t = Told a b t found
 
-abbrev decreases-loop : tie.decreases-loop
-decreases-loop a b found₀ t₀ found t = length a - t
+abbrev decreases-loop-t : tie.decreases-loop-t
+decreases-loop-t a b found₀ t₀ found t = length a - t
 
-loop_holds : tie.Need-loop-init invariant-loop decreases-loop
+loop_holds : tie.Need-loop-t-init invariant-loop-t decreases-loop-t
 loop_holds c = told_none c.args.a.now c.args.b.now
 
-shared_slice_read_found : tie.Need-shared-slice-read-found invariant-loop decreases-loop
+shared_slice_read_found : tie.Need-bounds-a-t invariant-loop-t decreases-loop-t
 shared_slice_read_found c = search rules
 
-shared_slice_read_found_2 : tie.Need-shared-slice-read-found-2 invariant-loop decreases-loop
+shared_slice_read_found_2 : tie.Need-bounds-b-t invariant-loop-t decreases-loop-t
 shared_slice_read_found_2 c = search rules
 
-add_t : tie.Need-overflow-add-t invariant-loop decreases-loop
+add_t : tie.Need-overflow_add-t invariant-loop-t decreases-loop-t
 add_t c = search rules
 
-loop_less : tie.Need-loop-smaller invariant-loop decreases-loop
+loop_less : tie.Need-loop-t-smaller invariant-loop-t decreases-loop-t
 loop_less c = search rules
 
-loop_again : tie.Need-loop-preserved invariant-loop decreases-loop
+loop_again : tie.Need-loop-t-preserved invariant-loop-t decreases-loop-t
 loop_again c =
-    let b = c.before.before.before.before in
-    let l = c.before.before.before.loop in
+    let b = c in
+    let l = c.loop-t in
     told_more b.args.a.now b.args.b.now l.t l.found l.invariant
 
-returns : tie.Need-returns invariant-loop decreases-loop
+returns : tie.Need-returns invariant-loop-t decreases-loop-t
 returns c =
-    let b = c.before.before in
-    told_all b.args.a.now b.args.b.now c.before.loop.t c.before.loop.found (omega arith) b.requires c.before.loop.invariant
+    let b = c in
+    told_all b.args.a.now b.args.b.now c.loop-t.t c.loop-t.found (omega arith) b.requires c.loop-t.invariant
 
 pub any_other_spec : {M : Type 1} → statement M
 any_other_spec =
     tie.close
     (tie.spec
-    invariant-loop
-    decreases-loop
+    invariant-loop-t
+    decreases-loop-t
     loop_holds
     shared_slice_read_found
     shared_slice_read_found_2

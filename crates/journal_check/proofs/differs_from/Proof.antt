@@ -17,28 +17,28 @@ some_word : {ws : List ℕ} → Formed 256 ws → 0 < length ws
 unfolding instant_words
 some_word f = subst⁻¹ (λ l. 0 < length l) f.is (omega arith)
 
-tokens_in_requires : tie.Need-tokens-in-requires
+tokens_in_requires : tie.Need-tokens_in-said-requires
 tokens_in_requires c κs = search rules
 
-word_at_requires : tie.Need-word-at-requires
-word_at_requires c κs = some_word c.before.before.before.requires.0
+word_at_requires : tie.Need-word_at-requires
+word_at_requires c κs = some_word c.requires.0
 
 number_requires : tie.Need-number-requires
 number_requires c κs = search rules
 
-slice_aggregate_any_other : tie.Need-slice-aggregate-any-other
+slice_aggregate_any_other : tie.Need-slice_bounds-any_other-end
 slice_aggregate_any_other c = search rules
 
-any_other_requires : tie.Need-any-other-requires
+any_other_requires : tie.Need-any_other-requires
 any_other_requires c κs = search rules
 
 returns : tie.Need-returns
 returns c =
-    let b = c.before.before.before.before.before.before.before in
-    let said = c.before.before.before.before.tokens-in.ensures in
+    let b = c in
+    let said = c.tokens_in-said.ensures in
     differ_so (words b.args.here.now) b.requires.0 b.args.status b.requires.1.0 b.args.out.now b.requires.1.1
-    c.before.before.number.result c.any-other.result (c.before.before.number.ensures ∙ ap status_in c.before.before.before.word_at.ensures)
-    (λ e. sym said ∙ c.any-other.ensures.0 e, λ e. c.any-other.ensures.1 (said ∙ e))
+    c.number.result c.any_other.result (c.number.ensures ∙ ap status_in c.word_at.ensures)
+    (λ e. sym said ∙ c.any_other.ensures.0 e, λ e. c.any_other.ensures.1 (said ∙ e))
 
 pub differs_from_spec : {M : Type 1} → statement M
 differs_from_spec =
