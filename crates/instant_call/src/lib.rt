@@ -1,4 +1,6 @@
 // One instant over lent buffers, numbers 1 to 11 and 18.
+#![tactic(auto)]
+
 ghost use Rattle.std.specs.Prelude.{◌≡◌, length};
 ghost use Rattle.tcc.specs.Instant.{answer};
 ghost use Rattle.instant_prepared.specs.Prepared.{PreparedFrom};

@@ -1,4 +1,6 @@
 // The instants of a run, played and written one after the other; where it stops, numbers 11, 18 and 15.
+#![tactic(auto)]
+
 ghost use Rattle.std.specs.Prelude.{◌≡◌, false, List, ℕ, ◌≤◌, length, get_or};
 ghost use Rattle.tcc.specs.Instant.{answer};
 ghost use Rattle.instant_prepared.specs.Prepared.{PreparedFrom};

@@ -29,163 +29,163 @@ use Rattle.journal_run_list.proofs.Runs.{Half, room_is, put_back, half_none, hal
 use Rattle.journal_run_list.proofs.run_list.Statement.{statement}
 use Rattle.journal_run_list.proofs.run_list.Tie as tie
 
-abbrev invariant-loop : tie.invariant-loop
-invariant-loop score prepared number inputs journal₀ scratch₀ stands₀ reached₀ instants₀ at₀ filled₀ journal scratch stands reached instants at filled =
+abbrev invariant-loop-at : tie.invariant-loop-at
+invariant-loop-at score prepared number inputs journal₀ scratch₀ stands₀ reached₀ instants₀ at₀ filled₀ journal scratch stands reached instants at filled =
     Reading (sizes score).tokens inputs at × (LawfulState (sizes score).agents (state_in stands) × ((length journal ≡ length journal₀) × ((filled ≤ length journal) × (((instants ≤ at) × (reached ≤ last_number))
     × (((s : List ℕ) → state_of s ≡ state_in stands₀ → instant_number s ≡ reached₀ → Half score inputs s journal₀ journal stands reached instants at filled) × (scratch ≡ no_scratch))))))
 
-abbrev decreases-loop : tie.decreases-loop
-decreases-loop score prepared number inputs journal₀ scratch₀ stands₀ reached₀ instants₀ at₀ filled₀ journal scratch stands reached instants at filled = length inputs - at
+abbrev decreases-loop-at : tie.decreases-loop-at
+decreases-loop-at score prepared number inputs journal₀ scratch₀ stands₀ reached₀ instants₀ at₀ filled₀ journal scratch stands reached instants at filled = length inputs - at
 
 -- Stations of the walk, each from a later place.
-abbrev to_start : tie.At-loop invariant-loop decreases-loop → tie.Start invariant-loop decreases-loop
+abbrev to_start : tie.At-loop-at invariant-loop-at decreases-loop-at → tie.Start invariant-loop-at decreases-loop-at
 to_start c = c.before.before.before.before.before
 
-abbrev to_loop : tie.After-tokens-in invariant-loop decreases-loop → tie.At-loop invariant-loop decreases-loop
+abbrev to_loop : tie.After-tokens_in-told invariant-loop-at decreases-loop-at → tie.At-loop-at invariant-loop-at decreases-loop-at
 to_loop c = c.before.before.before
 
-abbrev to_tokens : tie.After-advance invariant-loop decreases-loop → tie.After-tokens-in invariant-loop decreases-loop
+abbrev to_tokens : tie.After-advance-taken invariant-loop-at decreases-loop-at → tie.After-tokens_in-told invariant-loop-at decreases-loop-at
 to_tokens c = c.before.before.before
 
-abbrev to_advance : tie.After-goes-on invariant-loop decreases-loop → tie.After-advance invariant-loop decreases-loop
+abbrev to_advance : tie.After-goes_on invariant-loop-at decreases-loop-at → tie.After-advance-taken invariant-loop-at decreases-loop-at
 to_advance c = c.before.before.before.before.before
 
-loop_holds : tie.Need-loop-init invariant-loop decreases-loop
+loop_holds : tie.Need-loop-at-init invariant-loop-at decreases-loop-at
 loop_holds c =
-    let b = c.before.before.before.before in
+    let b = c in
     let s = b.args.score.now in
     let j = b.args.journal.now in
     let st = b.args.standing in
     (reading_none false (sizes s).tokens b.args.inputs.now b.requires.1.1.0, (b.requires.1.0, (refl, (omega arith, ((omega arith, omega (arith, b.ranges.number)), (λ s₀ e m. half_none s b.args.inputs.now s₀ j st b.args.number e m, b.requires.1.1.1))))))
 
-part_requires : tie.Need-part-requires invariant-loop decreases-loop
+part_requires : tie.Need-part-here-requires invariant-loop-at decreases-loop-at
 part_requires c κs = search rules
 
-tokens_in_requires : tie.Need-tokens-in-requires invariant-loop decreases-loop
+tokens_in_requires : tie.Need-tokens_in-told-requires invariant-loop-at decreases-loop-at
 tokens_in_requires c κs = search rules
 
-sub_advance : tie.Need-overflow-sub-advance invariant-loop decreases-loop
+sub_advance : tie.Need-slice_bounds-advance-count invariant-loop-at decreases-loop-at
 sub_advance c = search rules
 
-part_advance_start : tie.Need-slice-bounds-advance-start invariant-loop decreases-loop
+part_advance_start : tie.Need-slice_bounds-advance-start invariant-loop-at decreases-loop-at
 part_advance_start c = search rules
 
-part_advance_end : tie.Need-slice-bounds-advance-end invariant-loop decreases-loop
+part_advance_end : tie.Need-slice_bounds-advance-end invariant-loop-at decreases-loop-at
 part_advance_end c = search rules
 
-few : (c : tie.Start invariant-loop decreases-loop) → (sizes c.args.score.now).tokens ≤ 256
+few : (c : tie.Start invariant-loop-at decreases-loop-at) → (sizes c.args.score.now).tokens ≤ 256
 few c = omega (arith, decode_tokens c.args.score.now, c.requires.0.playable.lawful.tokens_at_most)
 
 -- the instant that is read
-next_at : (c : tie.After-tokens-in invariant-loop decreases-loop) → let b = to_start (to_loop c) in Next (sizes b.args.score.now).tokens b.args.inputs.now (to_loop c).loop.at c.before.part.result.now
+next_at : (c : tie.After-tokens_in-told invariant-loop-at decreases-loop-at) → let b = to_start (to_loop c) in Next (sizes b.args.score.now).tokens b.args.inputs.now (to_loop c).loop-at.at c.part-here.result.now
 next_at c =
     let at-loop = to_loop c in
     let b = to_start at-loop in
-    subst (Next (sizes b.args.score.now).tokens b.args.inputs.now at-loop.loop.at) (sym c.before.part.ensures)
-    (reading_next (sizes b.args.score.now).tokens b.args.inputs.now at-loop.loop.at at-loop.loop.inv.0 (omega arith))
+    subst (Next (sizes b.args.score.now).tokens b.args.inputs.now at-loop.loop-at.at) (sym c.part-here.ensures)
+    (reading_next (sizes b.args.score.now).tokens b.args.inputs.now at-loop.loop-at.at at-loop.loop-at.invariant.0 (omega arith))
 
-told_is : (c : tie.After-tokens-in invariant-loop decreases-loop) → set_of c.tokens-in.result ≡ inputs_in (words c.before.part.result.now)
+told_is : (c : tie.After-tokens_in-told invariant-loop-at decreases-loop-at) → set_of c.tokens_in-told.result ≡ inputs_in (words c.part-here.result.now)
 told_is c =
     let b = to_start (to_loop c) in
-    from.told_set (sizes b.args.score.now).tokens (few b) c.tokens-in.ensures (next_at c).told
+    from.told_set (sizes b.args.score.now).tokens (few b) c.tokens_in-told.ensures (next_at c).told
 
-told_known : (c : tie.After-tokens-in invariant-loop decreases-loop) (t : ℕ) → (sizes (to_start (to_loop c)).args.score.now).tokens ≤ t → get_or c.tokens-in.result t false ≡ false
+told_known : (c : tie.After-tokens_in-told invariant-loop-at decreases-loop-at) (t : ℕ) → (sizes (to_start (to_loop c)).args.score.now).tokens ≤ t → get_or c.tokens_in-told.result t false ≡ false
 told_known c =
     let b = to_start (to_loop c) in
-    from.told_known (sizes b.args.score.now).tokens (few b) c.tokens-in.ensures (next_at c).told
+    from.told_known (sizes b.args.score.now).tokens (few b) c.tokens_in-told.ensures (next_at c).told
 
-advance_requires : tie.Need-advance-requires invariant-loop decreases-loop
+advance_requires : tie.Need-advance-taken-requires invariant-loop-at decreases-loop-at
 advance_requires c κs =
     let at-loop = to_loop c.before.before in
     let b = to_start at-loop in
-    (b.pre.0, (at-loop.loop.inv.1.0, (told_known c.before.before, at-loop.loop.inv.1.1.1.1.1.1)))
+    (b.requires.0, (at-loop.loop-at.invariant.1.0, (told_known c.before.before, at-loop.loop-at.invariant.1.1.1.1.1.1)))
 
-lists_at : (c : tie.After-advance invariant-loop decreases-loop) → let at-loop = to_loop (to_tokens c) in let b = to_start at-loop in input_lists (drop at-loop.loop.at b.args.inputs.now)
-    ≡ set_of (to_tokens c).tokens-in.result ∷ input_lists (drop (at-loop.loop.at + length (to_tokens c).before.part.result.now) b.args.inputs.now)
+lists_at : (c : tie.After-advance-taken invariant-loop-at decreases-loop-at) → let at-loop = to_loop (to_tokens c) in let b = to_start at-loop in input_lists (drop at-loop.loop-at.at b.args.inputs.now)
+    ≡ set_of (to_tokens c).tokens_in-told.result ∷ input_lists (drop (at-loop.loop-at.at + length (to_tokens c).part-here.result.now) b.args.inputs.now)
 lists_at c =
     let at-tokens = to_tokens c in
     let at-loop = to_loop at-tokens in
-    (next_at at-tokens).lists ∙ ap (λ l. l ∷ input_lists (drop (at-loop.loop.at + length at-tokens.before.part.result.now) (to_start at-loop).args.inputs.now)) (sym (told_is at-tokens))
+    (next_at at-tokens).lists ∙ ap (λ l. l ∷ input_lists (drop (at-loop.loop-at.at + length at-tokens.part-here.result.now) (to_start at-loop).args.inputs.now)) (sym (told_is at-tokens))
 
-room_long : (c : tie.After-advance invariant-loop decreases-loop) → let at-loop = to_loop (to_tokens c) in length (take (length at-loop.loop.journal - at-loop.loop.filled) (drop at-loop.loop.filled at-loop.loop.journal)) ≡ length (to_start at-loop).args.journal.now - at-loop.loop.filled
+room_long : (c : tie.After-advance-taken invariant-loop-at decreases-loop-at) → let at-loop = to_loop (to_tokens c) in length (take (length at-loop.loop-at.journal - at-loop.loop-at.filled) (drop at-loop.loop-at.filled at-loop.loop-at.journal)) ≡ length (to_start at-loop).args.journal.now - at-loop.loop-at.filled
 room_long c =
     let at-loop = to_loop (to_tokens c) in
-    ap length (room_is at-loop.loop.journal at-loop.loop.filled) ∙ length-drop at-loop.loop.filled at-loop.loop.journal ∙ ap (λ n. n - at-loop.loop.filled) at-loop.loop.inv.1.1.0
+    ap length (room_is at-loop.loop-at.journal at-loop.loop-at.filled) ∙ length-drop at-loop.loop-at.filled at-loop.loop-at.journal ∙ ap (λ n. n - at-loop.loop-at.filled) at-loop.loop-at.invariant.1.1.0
 
-after_round : (c : tie.After-advance invariant-loop decreases-loop) → let at-loop = to_loop (to_tokens c) in let a = answer (decode (to_start at-loop).args.score.now) (state_in at-loop.loop.stands) (set_of (to_tokens c).tokens-in.result) in SameState (state_of (as_bytes (after a))) (after a)
+after_round : (c : tie.After-advance-taken invariant-loop-at decreases-loop-at) → let at-loop = to_loop (to_tokens c) in let a = answer (decode (to_start at-loop).args.score.now) (state_in at-loop.loop-at.stands) (set_of (to_tokens c).tokens_in-told.result) in SameState (state_of (as_bytes (after a))) (after a)
 after_round c =
     let at-tokens = to_tokens c in
     let at-loop = to_loop at-tokens in
     let b = to_start at-loop in
     let s = b.args.score.now in
-    state_round _ (after_lawful (decode s) _ 1024 b.pre.0.playable.lawful.agents_at_most (inside s b.pre.0.playable (state_in at-loop.loop.stands) at-loop.loop.inv.1.0 at-tokens.tokens-in.result (told_known at-tokens)))
+    state_round _ (after_lawful (decode s) _ 1024 b.requires.0.playable.lawful.agents_at_most (inside s b.requires.0.playable (state_in at-loop.loop-at.stands) at-loop.loop-at.invariant.1.0 at-tokens.tokens_in-told.result (told_known at-tokens)))
 
-goes_on_requires : tie.Need-goes-on-requires invariant-loop decreases-loop
+goes_on_requires : tie.Need-goes_on-requires invariant-loop-at decreases-loop-at
 goes_on_requires c κs = search rules
 
-fits_at : (c : tie.Then1 invariant-loop decreases-loop) → let at-advance = to_advance c.before in let at-loop = to_loop (to_tokens at-advance) in at-loop.loop.filled + at-advance.advance.result.bytes ≤ length (to_start at-loop).args.journal.now
+fits_at : (c : tie.Then-goes_on invariant-loop-at decreases-loop-at) → let at-advance = to_advance c.before in let at-loop = to_loop (to_tokens at-advance) in at-loop.loop-at.filled + at-advance.advance-taken.result.bytes ≤ length (to_start at-loop).args.journal.now
 fits_at c =
     let at-advance = to_advance c.before in
     let at-loop = to_loop (to_tokens at-advance) in
-    omega (arith, (took_fits at-advance.advance.ensures.0 (sym c.before.goes_on.ensures ∙ c.if1.true)).1, room_long at-advance, at-loop.loop.inv.1.1.0, at-loop.loop.inv.1.1.1.0)
+    omega (arith, (took_fits at-advance.advance-taken.ensures.0 (sym c.goes_on.ensures ∙ c.if-goes_on.true)).1, room_long at-advance, at-loop.loop-at.invariant.1.1.0, at-loop.loop-at.invariant.1.1.1.0)
 
 -- an instant that is written is not wanted at the last number
-below_last : (c : tie.Then1 invariant-loop decreases-loop) → (to_loop (to_tokens (to_advance c.before))).loop.reached < last_number
+below_last : (c : tie.Then-goes_on invariant-loop-at decreases-loop-at) → (to_loop (to_tokens (to_advance c.before))).loop-at.reached < last_number
 below_last c =
     let at-advance = to_advance c.before in
-    let l = (to_loop (to_tokens at-advance)).loop in
-    let n : l.reached ≡ last_number → ⊥ = eqb-false l.reached last_number (took_fits at-advance.advance.ensures.0 (sym c.before.goes_on.ensures ∙ c.if1.true)).0 in
-    omega (arith, l.inv.1.1.1.1.0.1)
+    let l = (to_loop (to_tokens at-advance)).loop-at in
+    let n : l.reached ≡ last_number → ⊥ = eqb-false l.reached last_number (took_fits at-advance.advance-taken.ensures.0 (sym c.goes_on.ensures ∙ c.if-goes_on.true)).0 in
+    omega (arith, l.invariant.1.1.1.1.0.1)
 
-add_reached : tie.Need-overflow-add-reached invariant-loop decreases-loop
+add_reached : tie.Need-overflow_add-reached invariant-loop-at decreases-loop-at
 add_reached c = omega (arith, below_last c.before)
 
-add_instants : tie.Need-overflow-add-instants invariant-loop decreases-loop
+add_instants : tie.Need-overflow_add-instants invariant-loop-at decreases-loop-at
 add_instants c =
     let at-tokens = to_tokens (to_advance c.before.before) in
     let at-loop = to_loop at-tokens in
-    omega (arith, (next_at at-tokens).some, (next_at at-tokens).fits, at-loop.loop.inv.1.1.1.1.0.0, (to_start at-loop).good.1.1.1.1.0.0)
+    omega (arith, (next_at at-tokens).some, (next_at at-tokens).fits, at-loop.loop-at.invariant.1.1.1.1.0.0, (to_start at-loop).well_formed.1.1.1.1.0.0)
 
-add_at : tie.Need-overflow-add-at invariant-loop decreases-loop
+add_at : tie.Need-overflow_add-at invariant-loop-at decreases-loop-at
 add_at c =
     let at-tokens = to_tokens (to_advance c.before.before) in
-    omega (arith, (next_at at-tokens).fits, (to_start (to_loop at-tokens)).good.1.1.1.1.0.0)
+    omega (arith, (next_at at-tokens).fits, (to_start (to_loop at-tokens)).well_formed.1.1.1.1.0.0)
 
-add_filled : tie.Need-overflow-add-filled invariant-loop decreases-loop
-add_filled c = omega (arith, fits_at c.before.before, (to_start (to_loop (to_tokens (to_advance c.before.before.before)))).good.1.1.1.1.1.0)
+add_filled : tie.Need-overflow_add-filled invariant-loop-at decreases-loop-at
+add_filled c = omega (arith, fits_at c.before.before, (to_start (to_loop (to_tokens (to_advance c.before.before.before)))).well_formed.1.1.1.1.1.0)
 
-loop_less : tie.Need-loop-smaller invariant-loop decreases-loop
+loop_less : tie.Need-loop-at-smaller invariant-loop-at decreases-loop-at
 loop_less c =
     let at-tokens = to_tokens (to_advance c.before.before.before) in
     omega (arith, (next_at at-tokens).some, (next_at at-tokens).fits)
 
-loop_again : tie.Need-loop-preserved invariant-loop decreases-loop
+loop_again : tie.Need-loop-at-preserved invariant-loop-at decreases-loop-at
 loop_again c =
     let at-advance = to_advance c.before.before.before in
     let at-tokens = to_tokens at-advance in
     let at-loop = to_loop at-tokens in
     let b = to_start at-loop in
-    let l = at-loop.loop in
+    let l = at-loop.loop-at in
     let s = b.args.score.now in
-    let t = at-advance.advance in
-    let goes : goes_on t.result.stop ≡ true = sym c.before.before.before.goes_on.ensures ∙ c.before.before.if1.true in
-    let long : length (put_mid l.filled (length l.journal - l.filled) l.journal t.last.1.1.1.1.1.0) ≡ length l.journal = same_len_mid l.filled (length l.journal - l.filled) l.journal t.last.1.1.1.1.1.0 t.kept.1.1.1.1.1.0 in (
+    let t = at-advance.advance-taken in
+    let goes : goes_on t.result.stop ≡ true = sym c.goes_on.ensures ∙ c.if-goes_on.true in
+    let long : length (put_mid l.filled (length l.journal - l.filled) l.journal t.new.journal) ≡ length l.journal = same_len_mid l.filled (length l.journal - l.filled) l.journal t.new.journal t.auto.journal in (
       (next_at at-tokens).follows,
       (
         t.ensures.0.lawful,
         (
-          long ∙ l.inv.1.1.0,
+          long ∙ l.invariant.1.1.0,
           (
-            omega (arith, fits_at c.before.before, long, l.inv.1.1.0),
+            omega (arith, fits_at c.before.before, long, l.invariant.1.1.0),
             (
-              (omega (arith, (next_at at-tokens).some, l.inv.1.1.1.1.0.0), omega (arith, below_last c.before.before)),
+              (omega (arith, (next_at at-tokens).some, l.invariant.1.1.1.1.0.0), omega (arith, below_last c.before.before)),
               (
                 λ s₀ e m.
-                    subst (λ j. Half s b.args.inputs.now s₀ b.args.journal.now j t.result.standing (l.reached + 1) (l.instants + 1) (l.at + length at-tokens.before.part.result.now) (l.filled + t.result.bytes))
-                    (sym (put_back l.journal _ l.filled l.inv.1.1.1.0))
-                    (half_more s b.args.inputs.now s₀ b.args.journal.now l.journal l.stands l.reached l.instants l.at l.filled (l.inv.1.1.1.1.1.0 s₀ e m)
-                    (set_of at-tokens.tokens-in.result) (drop (l.at + length at-tokens.before.part.result.now) b.args.inputs.now) (lists_at at-advance) _ (room_long at-advance) _ t.result t.ensures.0
-                    (room_is l.journal l.filled) (goes_not _ goes) (l.at + length at-tokens.before.part.result.now) refl (after_round at-advance) (below_last c.before.before)),
+                    subst (λ j. Half s b.args.inputs.now s₀ b.args.journal.now j t.result.standing (l.reached + 1) (l.instants + 1) (l.at + length at-tokens.part-here.result.now) (l.filled + t.result.bytes))
+                    (sym (put_back l.journal _ l.filled l.invariant.1.1.1.0))
+                    (half_more s b.args.inputs.now s₀ b.args.journal.now l.journal l.stands l.reached l.instants l.at l.filled (l.invariant.1.1.1.1.1.0 s₀ e m)
+                    (set_of at-tokens.tokens_in-told.result) (drop (l.at + length at-tokens.part-here.result.now) b.args.inputs.now) (lists_at at-advance) _ (room_long at-advance) _ t.result t.ensures.0
+                    (room_is l.journal l.filled) (goes_not _ goes) (l.at + length at-tokens.part-here.result.now) refl (after_round at-advance) (below_last c.before.before)),
                 t.ensures.1,
               ),
             ),
@@ -194,41 +194,41 @@ loop_again c =
       ),
     )
 
-same_length : tie.Need-same-length invariant-loop decreases-loop
+same_length : tie.Need-shape_of-journal-else-goes_on invariant-loop-at decreases-loop-at
 same_length c = search rules
 
-same_length_2 : tie.Need-same-length-2 invariant-loop decreases-loop
+same_length_2 : tie.Need-shape_of-scratch-else-goes_on invariant-loop-at decreases-loop-at
 same_length_2 c =
     let at-advance = to_advance c.before in
-    ap length (at-advance.advance.ensures.1 ∙ sym (to_start (to_loop (to_tokens at-advance))).pre.1.1.1)
+    ap length (at-advance.advance-taken.ensures.1 ∙ sym (to_start (to_loop (to_tokens at-advance))).requires.1.1.1)
 
-returns : tie.Need-returns invariant-loop decreases-loop
+returns : tie.Need-returns-else-goes_on invariant-loop-at decreases-loop-at
 returns c =
     let at-advance = to_advance c.before in
     let at-tokens = to_tokens at-advance in
     let at-loop = to_loop at-tokens in
     let b = to_start at-loop in
-    let l = at-loop.loop in
+    let l = at-loop.loop-at in
     let s = b.args.score.now in
-    let t = at-advance.advance in (
+    let t = at-advance.advance-taken in (
       λ s₀ e m. subst (λ j. RanTo s s₀ b.args.journal.now j (run_from s s₀ (length b.args.journal.now) (input_lists b.args.inputs.now)) (record { stop = t.result.stop; instants = l.instants; standing = l.stands; number = l.reached }))
-          (sym (put_back l.journal _ l.filled l.inv.1.1.1.0))
-          (half_stopped s b.args.inputs.now s₀ b.args.journal.now l.journal l.stands l.reached l.instants l.at l.filled (l.inv.1.1.1.1.1.0 s₀ e m)
-          (set_of at-tokens.tokens-in.result) (drop (l.at + length at-tokens.before.part.result.now) b.args.inputs.now) (lists_at at-advance) _ (room_long at-advance) _ t.result t.ensures.0
-          (room_is l.journal l.filled) (not_goes (sym c.before.goes_on.ensures ∙ c.if1.false)) _ refl refl refl refl l.inv.1.0),
+          (sym (put_back l.journal _ l.filled l.invariant.1.1.1.0))
+          (half_stopped s b.args.inputs.now s₀ b.args.journal.now l.journal l.stands l.reached l.instants l.at l.filled (l.invariant.1.1.1.1.1.0 s₀ e m)
+          (set_of at-tokens.tokens_in-told.result) (drop (l.at + length at-tokens.part-here.result.now) b.args.inputs.now) (lists_at at-advance) _ (room_long at-advance) _ t.result t.ensures.0
+          (room_is l.journal l.filled) (not_goes (sym c.goes_on.ensures ∙ c.if-goes_on.false)) _ refl refl refl refl l.invariant.1.0),
       t.ensures.1,
     )
 
-same_length_3 : tie.Need-same-length-3 invariant-loop decreases-loop
+same_length_3 : tie.Need-shape_of-journal invariant-loop-at decreases-loop-at
 same_length_3 c = search rules
 
-same_length_4 : tie.Need-same-length-4 invariant-loop decreases-loop
-same_length_4 c = ap length (c.before.loop.invariant.1.1.1.1.1.1 ∙ sym (to_start c.before).pre.1.1.1)
+same_length_4 : tie.Need-shape_of-scratch invariant-loop-at decreases-loop-at
+same_length_4 c = ap length (c.loop-at.invariant.1.1.1.1.1.1 ∙ sym (to_start c.before).requires.1.1.1)
 
-returns_2 : tie.Need-returns-2 invariant-loop decreases-loop
+returns_2 : tie.Need-returns invariant-loop-at decreases-loop-at
 returns_2 c =
     let b = to_start c.before in
-    let l = c.before.loop in (
+    let l = c.loop-at in (
       λ s₀ e m. half_ended b.args.score.now b.args.inputs.now s₀ b.args.journal.now l.journal l.stands l.reached l.instants l.at l.filled (l.invariant.1.1.1.1.1.0 s₀ e m)
           _ refl refl refl refl l.invariant.1.0 (reading_end (sizes b.args.score.now).tokens b.args.inputs.now l.at (omega arith)),
       l.invariant.1.1.1.1.1.1,
@@ -238,8 +238,8 @@ pub run_list_spec : {M : Type 1} → statement M
 run_list_spec =
     tie.close
     (tie.spec
-    invariant-loop
-    decreases-loop
+    invariant-loop-at
+    decreases-loop-at
     loop_holds
     part_requires
     tokens_in_requires
