@@ -1,4 +1,6 @@
 // The run over lent buffers, numbers 1 to 9, 12 and 13, then its instants.
+#![tactic(auto)]
+
 ghost use Rattle.std.specs.Prelude.{◌≡◌, false, cond, not, ◌||◌, eqb, length};
 ghost use Rattle.instant_prepared.specs.Prepared.{PreparedFrom};
 ghost use Rattle.format.specs.Decode.{sizes};

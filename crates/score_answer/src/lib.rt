@@ -1,4 +1,6 @@
 // An answer as a number: what each call found, packed, and what a caller reads off it.
+#![tactic(auto)]
+
 ghost use Rattle.std.specs.Prelude.{◌≡◌, false, true, ◌<◌, ◌≤◌, ◌^◌};
 ghost use Rattle.score_answer.specs.Answer.{refused, settled, counted, packed, is_wide, Fits};
 ghost use Rattle.score_answer.specs.Replies.{of_verdict, of_reply, of_run_reply, of_translation, of_settings};

@@ -19,64 +19,64 @@ few c = omega arith
 many : (c : tie.Start) → length (keys c.args.count c.args.table.now) ≡ c.args.count
 many c = keys_length c.args.count c.args.table.now (few c)
 
-place_within : (c : tie.After-place) → c.place.result ≤ c.before.before.args.count
-place_within c = omega (arith, many c.before.before)
+place_within : (c : tie.After-place-at) → c.place-at.result ≤ c.args.count
+place_within c = omega (arith, many c.before)
 
 -- where the place is past the last pair, or what stands there is above the pair
-absent : (c : tie.Joined1) → let b = c.before.before.before in Memᴰ (row_value b.args.row) (keys b.args.count b.args.table.now) → ⊥
+absent : (c : tie.Joined-at-count) → let b = c in Memᴰ (row_value b.args.row) (keys b.args.count b.args.table.now) → ⊥
 absent c =
-    let b = c.before.before.before in
-    let at = c.before.place.result in
-    placed_absent b.requires.1.1 c.before.place.ensures
+    let b = c in
+    let at = c.place-at.result in
+    placed_absent b.requires.1.1 c.place-at.ensures
     (⊎_elim
     (λ w.
-    let before : row_value b.args.row < row_value (get_or b.args.table.now at []) = ltb-true _ _ (sym w.2.ensures ∙ not-false _ w.3.left) in
-    inr (omega (arith, keys_at b.args.count b.args.table.now (few b) at (omega (arith, w.0.taken, place_within c.before)))))
-    (λ w. inl (omega (arith, many b, place_within c.before, w.left)))
-    c.if1.branch)
+    let before : row_value b.args.row < row_value (get_or b.args.table.now at []) = ltb-true _ _ (sym w.is_before.ensures ∙ not-false _ w.if-not-is_before.false-raw) in
+    inr (omega (arith, keys_at b.args.count b.args.table.now (few b.before.before) at (omega (arith, w.if-at-count.true, place_within c.before)))))
+    (λ w. inl (omega (arith, many b.before.before, place_within c.before, w.if-at-count.false)))
+    c.if-at-count.branch-raw)
 
-place_requires : tie.Need-place-requires
+place_requires : tie.Need-place-at-requires
 place_requires c κs = search rules
 
-mul_is_before : tie.Need-overflow-mul-is-before
+mul_is_before : tie.Need-offset_bounds-table-at
 mul_is_before c = search rules
 
-element_copy_out_is_before : tie.Need-element-copy-out-is-before
+element_copy_out_is_before : tie.Need-bounds-table-at
 element_copy_out_is_before c = search rules
 
-is_before_requires : tie.Need-is-before-requires
+is_before_requires : tie.Need-is_before-requires
 is_before_requires c κs = search rules
 
-returns : tie.Need-returns
+returns : tie.Need-returns-then-not-is_before
 returns c =
-    let b = c.before.before.before.before.before.before in
-    let at = c.before.before.before.before.place.result in
-    let not-before : row_value (get_or b.args.table.now at []) ≤ row_value b.args.row = ltb-false _ _ (sym c.before.is-before.ensures ∙ not-true _ c.if2.true) in
-    entered_present (few b) (omega (arith, b.requires)) b.requires.1.1 c.before.before.before.before.place.ensures (omega arith) not-before
+    let b = c in
+    let at = c.place-at.result in
+    let not-before : row_value (get_or b.args.table.now at []) ≤ row_value b.args.row = ltb-false _ _ (sym c.is_before.ensures ∙ not-true _ c.if-not-is_before.true-raw) in
+    entered_present (few b.before.before.before.before.before) (omega (arith, b.requires)) b.requires.1.1 c.place-at.ensures (omega arith) not-before
 
-add_result : tie.Need-overflow-add-result
+add_result : tie.Need-overflow_add-result
 add_result c = search rules
 
-returns_2 : tie.Need-returns-2
+returns_2 : tie.Need-returns-then-count-eq-MOST
 returns_2 c = entered_full (omega arith) (omega arith) (absent c.before)
 
-make_room_requires : tie.Need-make-room-requires
+make_room_requires : tie.Need-make_room-requires
 make_room_requires c κs = (search rules, (omega arith, place_within c.before.before.before))
 
-mul_row : tie.Need-overflow-mul-row
+mul_row : tie.Need-offset_bounds-table-at-2
 mul_row c = omega (arith, place_within c.before.before.before.before)
 
-element_set_from_row : tie.Need-element-set-from-row
-element_set_from_row c = omega (arith, place_within c.before.before.before.before, c.before.before.if3.false)
+element_set_from_row : tie.Need-bounds-table-at-2
+element_set_from_row c = omega (arith, place_within c.before.before.before.before, c.if-count-eq-MOST.false)
 
-add_result_2 : tie.Need-overflow-add-result-2
+add_result_2 : tie.Need-overflow_add-result-2
 add_result_2 c = search rules
 
-returns_3 : tie.Need-returns-3
+returns_3 : tie.Need-returns
 returns_3 c =
-    let b = c.before.before.before.before.before.before in
+    let b = c in
     let most : b.args.count < 1088 = omega arith in
-    entered_new b.args.row (omega (arith, b.requires)) most (omega arith) c.make-room.ensures c.before.before.before.before.place.ensures (absent c.before.before.before)
+    entered_new b.args.row (omega (arith, b.requires)) most (omega arith) c.make_room.ensures c.place-at.ensures (absent c.before.before.before)
 
 pub enter_spec : {M : Type 1} → statement M
 enter_spec =

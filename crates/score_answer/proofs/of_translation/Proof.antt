@@ -8,39 +8,39 @@ use borrow.Author.Rules.{rules}
 use Rattle.score_answer.proofs.of_translation.Statement.{statement}
 use Rattle.score_answer.proofs.of_translation.Tie as tie
 
-enum_known_reply : tie.Need-enum-known-reply
+enum_known_reply : tie.Need-enum_known-reply
 enum_known_reply c = search rules
 
-of_verdict_requires : tie.Need-of-verdict-requires
-of_verdict_requires c κs = subst (λ (r : Replied). Fits (of_translation r)) c.before.reply.given.1 c.before.before.before.requires
+of_verdict_requires : tie.Need-of_verdict-requires
+of_verdict_requires c κs = subst (λ (r : Replied). Fits (of_translation r)) c.in-Draft.is c.requires
 
-enum_told : tie.Need-enum-told
+enum_told : tie.Need-enum_told-1
 enum_told c = search rules
 
 refusal_requires : tie.Need-refusal-requires
 refusal_requires c κs = search rules
 
-enum_told_2 : tie.Need-enum-told-2
+enum_told_2 : tie.Need-enum_told-in-Large
 enum_told_2 c = search rules
 
-refusal_requires_2 : tie.Need-refusal-requires-2
+refusal_requires_2 : tie.Need-refusal-requires-in-Large
 refusal_requires_2 c κs = search rules
 
-enum_known_reply_2 : tie.Need-enum-known-reply-2
+enum_known_reply_2 : tie.Need-enum_known-reply-in-Translated-1
 enum_known_reply_2 c = search rules
 
-returns : tie.Need-returns
-returns c = as_told of_translation c.of-verdict.ensures c.before.before.reply.given.1 refl
+returns : tie.Need-returns-in-Draft
+returns c = as_told of_translation c.of_verdict.ensures c.in-Draft.is refl
 
-returns_2 : tie.Need-returns-2
-returns_2 c = as_told of_translation c.refusal.ensures c.before.enum_told.given.1 refl
+returns_2 : tie.Need-returns-in-Lengths
+returns_2 c = as_told of_translation c.refusal.ensures c.in-Lengths.is refl
 
-returns_3 : tie.Need-returns-3
-returns_3 c = as_told of_translation c.refusal2.ensures c.before.enum-told2.given.1 refl
+returns_3 : tie.Need-returns-in-Large
+returns_3 c = as_told of_translation c.refusal-in-Large.ensures c.in-Large.is refl
 
-returns_4 : tie.Need-returns-4
+returns_4 : tie.Need-returns-in-Translated
 unfolding packed
-returns_4 c = ap (λ r. packed (of_translation r)) (sym c.before.reply2.given.1)
+returns_4 c = ap (λ r. packed (of_translation r)) (sym c.in-Translated.is)
 
 pub of_translation_spec : {M : Type 1} → statement M
 of_translation_spec =

@@ -21,34 +21,34 @@ small : (n v : ℕ) → (n ≡ 0 → ⊥) → n < 13 → Fits (reply n v) → v 
 small zero v h lt f = absurd (h refl)
 small (suc n) v h lt f = subst (λ b. v < cond b (2 ^ 61) (2 ^ 24)) (not_wide (suc n) lt) f.2
 
-number_of_requires : tie.Need-number-of-requires
+number_of_requires : tie.Need-number_of-number-requires
 number_of_requires c κs = search rules
 
-returns : tie.Need-returns
+returns : tie.Need-returns-then-number-eq0
 unfolding packed
 returns c =
-    let v = c.before.before.args.verdict in
-    let e : v ≡ Accepted = accepted_only v (sym c.before.number_of_lem.ensures ∙ c.if1.true) in
+    let v = c.args.verdict in
+    let e : v ≡ Accepted = accepted_only v (sym c.number_of-number.ensures ∙ c.if-number-eq0.true) in
     ap (λ x. packed (of_verdict x)) (sym e)
 
-value_of_requires : tie.Need-value-of-requires
+value_of_requires : tie.Need-value_of-requires
 value_of_requires c κs = search rules
 
 refusal_requires : tie.Need-refusal-requires
 refusal_requires c κs =
-    let v = c.before.before.before.args.verdict in
-    let n = c.before.before.number_of_lem.ensures in
+    let v = c.args.verdict in
+    let n = c.number_of-number.ensures in
     let few : verdict_number v < 13 = omega (arith, number_few v) in
-    let h : verdict_value v < 2 ^ 24 = small (verdict_number v) (verdict_value v) (λ z. c.before.if1.false (n ∙ z)) few c.before.before.before.requires in
-    (omega (arith, n), (not_wide c.before.before.number_of_lem.result (omega (arith, n)), omega (arith, c.value_of_lem.ensures)))
+    let h : verdict_value v < 2 ^ 24 = small (verdict_number v) (verdict_value v) (λ z. c.if-number-eq0.false (n ∙ z)) few c.requires in
+    (omega (arith, n), (not_wide c.number_of-number.result (omega (arith, n)), omega (arith, c.value_of.ensures)))
 
-returns_2 : tie.Need-returns-2
+returns_2 : tie.Need-returns
 returns_2 c =
-    let v = c.before.before.before.before.args.verdict in
-    let n = c.before.before.before.number_of_lem.ensures in
+    let v = c.args.verdict in
+    let n = c.number_of-number.ensures in
     c.refusal.ensures
-    ∙ ap₂ (λ m w. packed (refused m w)) n c.before.value_of_lem.ensures
-    ∙ ap packed (refused_reply (verdict_number v) (verdict_value v) (λ z. c.before.before.if1.false (n ∙ z)))
+    ∙ ap₂ (λ m w. packed (refused m w)) n c.value_of.ensures
+    ∙ ap packed (refused_reply (verdict_number v) (verdict_value v) (λ z. c.if-number-eq0.false (n ∙ z)))
 
 pub of_verdict_spec : {M : Type 1} → statement M
 of_verdict_spec = tie.close (tie.spec number_of_requires returns value_of_requires refusal_requires returns_2)

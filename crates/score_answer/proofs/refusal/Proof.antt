@@ -7,13 +7,13 @@ use borrow.Author.Rules.{rules}
 use Rattle.score_answer.proofs.refusal.Statement.{statement}
 use Rattle.score_answer.proofs.refusal.Tie as tie
 
-mul_result : tie.Need-overflow-mul-result
+mul_result : tie.Need-overflow_mul-result
 mul_result c = search rules
 
-add_result : tie.Need-overflow-add-result
+add_result : tie.Need-overflow_add-result
 add_result c = search rules
 
-add_result_2 : tie.Need-overflow-add-result-2
+add_result_2 : tie.Need-overflow_add-result-2
 add_result_2 c = search rules
 
 short : (n v : ℕ) → is_wide n ≡ false → 2 ^ 61 + v * 2 ^ 8 + n ≡ packed (refused n v)

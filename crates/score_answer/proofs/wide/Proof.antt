@@ -7,13 +7,13 @@ use borrow.Author.Rules.{rules}
 use Rattle.score_answer.proofs.wide.Statement.{statement}
 use Rattle.score_answer.proofs.wide.Tie as tie
 
-sub_result : tie.Need-overflow-sub-result
+sub_result : tie.Need-overflow_sub-result
 sub_result c = search rules
 
-mul_result : tie.Need-overflow-mul-result
+mul_result : tie.Need-overflow_mul-result
 mul_result c = search rules
 
-add_result : tie.Need-overflow-add-result
+add_result : tie.Need-overflow_add-result
 add_result c = search rules
 
 long : (n v : ℕ) → is_wide n ≡ true → (n - 11) * 2 ^ 61 + v ≡ packed (refused n v)
