@@ -1,6 +1,6 @@
 -- How copying composes.
 --     Ready, ready_none              a table that copying may begin with: its pairs rise, and each is led to; an empty one is
---     Asked, ready_given, ready_asked     the same as the clauses of a function say it
+--     Asked, ready_asked             the same as the clauses of a function say it
 --     Extended                       of the pairs before and after: several are there, and whatever is new has all that it
 --                                    leads to there
 --     extended_then                  so of more pairs, one after the other
@@ -8,7 +8,7 @@
 --     AllCopied                      several pairs are there in a table, or there are too many
 --     all_none, all_one, all_then, all_over           no pair, one, more pairs, pairs not looked at where there are too many
 --     copied_ready                   a table is ready again once a pair is copied
---     Entering                       a pair that is led to is entered in a table that is ready
+--     Entering, entering_given       a pair that is led to is entered in a table that is ready, as the clauses say it
 --     entered_ready, entered_higher  the table is ready again; a pair that was not there makes it longer
 --     entered_led                    what it leads to is led to
 --     entered_over                   where there is no room for it, there are too many
@@ -53,9 +53,6 @@ ready_none d table h = record { long = h; few = omega arith; rising = none; led 
 
 abbrev Asked : Draft → ℕ → List (List ℕ) → Type 0
 Asked d count table = (length table ≡ 1088) × ((count ≤ 1088) × (Rising (keys count table) × Within (Led d) (keys count table)))
-
-pub ready_given : (d : Draft) (count : ℕ) (table : List (List ℕ)) → Asked d count table → Ready d count table
-ready_given d count table a = record { long = a.0; few = a.1.0; rising = a.1.1.0; led = a.1.1.1 }
 
 pub ready_asked : {d : Draft} {count : ℕ} {table : List (List ℕ)} → Ready d count table → Asked d count table
 ready_asked r = (r.long, (r.few, (r.rising, r.led)))
@@ -145,6 +142,9 @@ pub record Entering (d : Draft) (key row count : ℕ) (before : List (List ℕ))
   pub led : Led d key
   pub is : row ≡ key
   pub entered : Entered row count before after r
+
+pub entering_given : {d : Draft} {key row count r : ℕ} {before after : List (List ℕ)} → Asked d count before → Led d key → row ≡ key → Entered row count before after r → Entering d key row count before r after
+entering_given asked led is entered = record { ready = record { long = asked.0; few = asked.1.0; rising = asked.1.1.0; led = asked.1.1.1 }; led = led; is = is; entered = entered }
 
 module _ {d : Draft} {key row count r : ℕ} {before after : List (List ℕ)} (g : Entering d key row count before r after) where
   abbrev old : List ℕ

@@ -1,4 +1,6 @@
 // The pairs of a draft, copied; what its references lead to (`targets`).
+#![tactic(auto)]
+
 pub mod targets;
 
 ghost use Rattle.std.specs.Prelude.{◌≡◌, ℕ, ◌<◌, ◌≤◌, length};
