@@ -1,4 +1,6 @@
 // The pairs and the asked sets (`asked`) of a draft, gathered in two tables.
+#![tactic(auto)]
+
 pub mod asked;
 
 ghost use Rattle.std.specs.Prelude.{◌≡◌, length};

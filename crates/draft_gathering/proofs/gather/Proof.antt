@@ -18,68 +18,68 @@ use Rattle.draft_gathering.proofs.gather.Statement.{statement}
 use Rattle.draft_gathering.proofs.gather.Tie as tie
 
 -- Stations of the walk, each from a later place.
-abbrev to_start : tie.After-copy-draft → tie.Start
+abbrev to_start : tie.After-copy_draft-pairs → tie.Start
 to_start c = c.before.before.before.before.before
 
-translatable : (c : tie.After-shared-slice-known) → Translatable c.before.args.draft.now
-translatable c = accepted_translatable c.before.args.draft.now (λ i. omega (arith, c.shared-slice-known.given i)) c.before.requires.0
+translatable : (c : tie.After-shared_slice_known-1) → Translatable c.args.draft.now
+translatable c = accepted_translatable c.args.draft.now (λ i. omega (arith, c.shared_slice_known-1.given i)) c.requires.0
 
-head_is : (c : tie.After-sizes-of) → c.sizes-of.result ≡ sizes c.before.before.before.args.draft.now
-head_is c = head_read c.before.before.before.args.draft.now c.before.word_at.ensures c.sizes-of.ensures
+head_is : (c : tie.After-sizes_of-head) → c.sizes_of-head.result ≡ sizes c.args.draft.now
+head_is c = head_read c.args.draft.now c.word_at.ensures c.sizes_of-head.ensures
 
-parted : (c : tie.After-place) →
-    let pairs = c.before.before.before.before.copy-draft in
-    let draft = (to_start c.before.before.before.before).args.draft.now in
-    Parted (decode_draft draft) pairs.new.1.1.0 pairs.result c.place.result
+parted : (c : tie.After-place-copied) →
+    let pairs = c.copy_draft-pairs in
+    let draft = (to_start c.before.before.before).args.draft.now in
+    Parted (decode_draft draft) pairs.new.table pairs.result c.place-copied.result
 parted c =
-    let at-pairs = c.before.before.before in
-    let pairs = at-pairs.before.copy-draft in
-    table_parted (omega (arith, pairs.ensures.long, at-pairs.if1.false)) (pairs.ensures.exact at-pairs.if1.false)
-    (subst (λ k. Placed (keys pairs.result pairs.new.1.1.0) k c.place.result) c.before.row_of.ensures c.place.ensures)
+    let at-pairs = c in
+    let pairs = at-pairs.copy_draft-pairs in
+    table_parted (omega (arith, pairs.ensures.long, at-pairs.if-pairs-gt-MOST.false)) (pairs.ensures.exact at-pairs.if-pairs-gt-MOST.false)
+    (subst (λ k. Placed (keys pairs.result pairs.new.table) k c.place-copied.result) c.row_of.ensures c.place-copied.ensures)
 
-word_at_requires : tie.Need-word-at-requires
+word_at_requires : tie.Need-word_at-requires
 word_at_requires c κs = omega (arith, (translatable c).whole)
 
-sizes_of_requires : tie.Need-sizes-of-requires
+sizes_of_requires : tie.Need-sizes_of-head-requires
 sizes_of_requires c κs = search rules
 
-copy_draft_requires : tie.Need-copy-draft-requires
+copy_draft_requires : tie.Need-copy_draft-pairs-requires
 copy_draft_requires c κs =
-    let b = c.before.before.before.before in
+    let b = c in
     (translatable c.before.before.before, (ap (λ h. h.agents) (head_is c.before), b.requires.1.0))
 
-returns : tie.Need-returns
-returns c = c.before.copy-draft.ensures.over c.if1.true
+returns : tie.Need-returns-then-pairs-gt-MOST
+returns c = c.copy_draft-pairs.ensures.over c.if-pairs-gt-MOST.true
 
-row_of_requires : tie.Need-row-of-requires
+row_of_requires : tie.Need-row_of-requires
 row_of_requires c κs = search rules
 
-place_requires : tie.Need-place-requires
+place_requires : tie.Need-place-copied-requires
 place_requires c κs =
-    let all = c.before.before.before.copy-draft.ensures in
-    let few = c.before.before.if1.false in
+    let all = c.copy_draft-pairs.ensures in
+    let few = c.if-pairs-gt-MOST.false in
     (all.long, (few, subst⁻¹ Rising (all.exact few) (places_rising _)))
 
-returns_2 : tie.Need-returns-2
-returns_2 c = many_agents (parted c.before) (omega (arith, c.if2.true))
+returns_2 : tie.Need-returns-then-copied-gt-MOST_AGENTS
+returns_2 c = many_agents (parted c.before) (omega (arith, c.if-copied-gt-MOST_AGENTS.true))
 
-sub_if3 : tie.Need-overflow-sub-if3
+sub_if3 : tie.Need-overflow_sub-pairs
 sub_if3 c = (parted c.before).within
 
-returns_3 : tie.Need-returns-3
-returns_3 c = many_procedures (parted c.before.before) (omega (arith, c.if3.true))
+returns_3 : tie.Need-returns-then-pairs-copied-gt-MOST_PROCEDURES
+returns_3 c = many_procedures (parted c.before.before) (omega (arith, c.if-pairs-copied-gt-MOST_PROCEDURES.true))
 
-gather_sets_requires : tie.Need-gather-sets-requires
+gather_sets_requires : tie.Need-gather_sets-requires
 gather_sets_requires c κs =
-    let e = c.before.before in
-    let p = e.before.before in
-    let pairs = p.before.before.before.before in
-    let b = to_start pairs in (
-      pairs_gathered b.pre.0 (head_is pairs.before.before) pairs.copy-draft.ensures p.before.before.before.if1.false (parted p) (omega (arith, e.before.if2.false)) (omega (arith, e.if3.false)),
-      b.pre.1.1,
+    let e = c in
+    let p = e in
+    let pairs = p in
+    let b = to_start pairs.before.before.before.before.before.before in (
+      pairs_gathered b.requires.0 (head_is pairs.before.before.before.before.before.before.before.before) pairs.copy_draft-pairs.ensures p.if-pairs-gt-MOST.false (parted p.before.before.before) (omega (arith, e.if-copied-gt-MOST_AGENTS.false)) (omega (arith, e.if-pairs-copied-gt-MOST_PROCEDURES.false)),
+      b.requires.1.1,
     )
 
-returns_4 : tie.Need-returns-4
+returns_4 : tie.Need-returns
 returns_4 c = search rules
 
 pub gather_spec : {M : Type 1} → statement M

@@ -10,66 +10,66 @@ use Rattle.draft_gathering.proofs.Stages.{accepted_translatable, Bounds, fit_bou
 use Rattle.draft_gathering.proofs.gather_sets.Statement.{statement}
 use Rattle.draft_gathering.proofs.gather_sets.Tie as tie
 
-translatable : (c : tie.After-shared-slice-known) → Translatable c.before.args.draft.now
-translatable c = accepted_translatable c.before.args.draft.now (λ i. omega (arith, c.shared-slice-known.given i)) c.before.requires.0.accepted
+translatable : (c : tie.After-shared_slice_known-1) → Translatable c.args.draft.now
+translatable c = accepted_translatable c.args.draft.now (λ i. omega (arith, c.shared_slice_known-1.given i)) c.requires.0.accepted
 
 bounds : (c : tie.Start) → Bounds c.args.draft.now c.args.head
 bounds c = fit_bounds c.requires.0
 
-asked : (c : tie.After-enter-asked) →
-    let b = c.before.before.before.args in
-    AskedIn b.draft.now b.head b.table.now c.enter-asked.new.1.1.1.1.0 b.pairs b.copied c.enter-asked.result
+asked : (c : tie.After-enter_asked-count) →
+    let b = c.args in
+    AskedIn b.draft.now b.head b.table.now c.enter_asked-count.new.sets b.pairs b.copied c.enter_asked-count.result
 asked c =
-    let b = c.before.before.before in
-    let e = c.enter-asked.ensures in
+    let b = c in
+    let e = c.enter_asked-count.ensures in
     record { fit = b.requires.0; translatable = translatable c.before.before; are = e.0; few = e.1.0; long = e.1.1 }
 
-enter_asked_requires : tie.Need-enter-asked-requires
+enter_asked_requires : tie.Need-enter_asked-count-requires
 enter_asked_requires c κs =
-    let b = c.before.before in
+    let b = c in
     let fit = b.requires.0 in
     (translatable c.before, (ap (λ h. h.tokens) fit.head_is, (fit.table_long, (b.requires.1, (fit.copied_fit, fit.copied_are)))))
 
-add_if1 : tie.Need-overflow-add-if1
+add_if1 : tie.Need-overflow_add-head
 add_if1 c =
     let a = asked c.before in
     omega (arith, bounds c.before.before.before.before, a.few, a.fit.copied_fit)
 
-returns : tie.Need-returns
-returns c = many_tokens (asked c.before.before) (omega (arith, c.if1.true))
+returns : tie.Need-returns-then-head-count-gt-MOST_TOKENS
+returns c = many_tokens (asked c.before.before) (omega (arith, c.if-head-count-gt-MOST_TOKENS.true))
 
-word_count_requires : tie.Need-word-count-requires
+word_count_requires : tie.Need-word_count-words-requires
 word_count_requires c κs = search rules
 
-add_rules : tie.Need-overflow-add-rules
+add_rules : tie.Need-overflow_add-rules
 add_rules c = omega (arith, bounds c.before.before.before.before.before.before.before)
 
-add_rules_2 : tie.Need-overflow-add-rules-2
+add_rules_2 : tie.Need-overflow_add-rules-2
 add_rules_2 c = omega (arith, bounds c.before.before.before.before.before.before.before.before)
 
-sub_rules : tie.Need-overflow-sub-rules
-sub_rules c = omega (arith, bounds c.before.before.before.before.before.before.before.before, c.before.before.word_count.ensures)
+sub_rules : tie.Need-overflow_sub-rules
+sub_rules c = omega (arith, bounds c.before.before.before.before.before.before.before.before, c.word_count-words.ensures)
 
-member_count_requires : tie.Need-member-count-requires
+member_count_requires : tie.Need-member_count-requires
 member_count_requires c κs =
-    let e = c.before.before.before.before.before.before in
-    let a = asked e in
-    (a.long, (sets_fit a, ((bounds e.before.before.before).few_tokens, tokens_below a)))
+    let e = c in
+    let a = asked e.before.before.before.before.before in
+    (a.long, (sets_fit a, ((bounds e.before.before.before.before.before.before.before.before).few_tokens, tokens_below a)))
 
-add_if2 : tie.Need-overflow-add-if2
+add_if2 : tie.Need-overflow_add-rules-3
 add_if2 c =
-    let w = c.before.before.before.before in
-    omega (arith, bounds w.before.before.before.before.before.before, w.word_count.ensures, c.member-count.ensures.1)
+    let w = c in
+    omega (arith, bounds w.before.before.before.before.before.before.before.before.before, w.word_count-words.ensures, c.member_count.ensures.1)
 
-returns_2 : tie.Need-returns-2
+returns_2 : tie.Need-returns-then-rules-member_count-gt-MOST_RULES
 returns_2 c =
-    let w = c.before.before.before.before.before in
-    many_rules (asked w.before.before.before) w.word_count.ensures c.before.member-count.ensures.0 (omega (arith, c.if2.true))
+    let w = c in
+    many_rules (asked w.before.before.before.before.before.before.before) w.word_count-words.ensures c.member_count.ensures.0 (omega (arith, c.if-rules-member_count-gt-MOST_RULES.true))
 
-returns_3 : tie.Need-returns-3
+returns_3 : tie.Need-returns
 returns_3 c =
-    let w = c.before.before.before.before.before in
-    all_gathered (asked w.before.before.before) w.word_count.ensures c.before.member-count.ensures.0 (omega (arith, w.before.if1.false)) (omega (arith, c.if2.false))
+    let w = c in
+    all_gathered (asked w.before.before.before.before.before.before.before) w.word_count-words.ensures c.member_count.ensures.0 (omega (arith, w.if-head-count-gt-MOST_TOKENS.false)) (omega (arith, c.if-rules-member_count-gt-MOST_RULES.false))
 
 pub gather_sets_spec : {M : Type 1} → statement M
 gather_sets_spec =

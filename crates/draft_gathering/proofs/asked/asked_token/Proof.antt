@@ -14,31 +14,31 @@ use Rattle.draft_gathering.proofs.AskedSets.{token_new, token_own}
 use Rattle.draft_gathering.proofs.asked.asked_token.Statement.{statement}
 use Rattle.draft_gathering.proofs.asked.asked_token.Tie as tie
 
-token_count_requires : tie.Need-token-count-requires
+token_count_requires : tie.Need-token_count-requires
 token_count_requires c κs = search rules
 
-renumbered_requires : tie.Need-renumbered-requires
+renumbered_requires : tie.Need-renumbered-key-requires
 renumbered_requires c κs = search rules
 
 place_requires : tie.Need-place-requires
 place_requires c κs = search rules
 
-add_result : tie.Need-overflow-add-result
-add_result c = let b = c.before.before.before.before in omega (arith, c.place.ensures.within, keys_length b.args.count b.args.sets.now (omega arith))
+add_result : tie.Need-overflow_add-result
+add_result c = let b = c in omega (arith, c.place.ensures.within, keys_length b.args.count b.args.sets.now (omega arith))
 
-returns : tie.Need-returns
+returns : tie.Need-returns-then-token_count-gt1
 returns c =
-    let b = c.before.before.before.before in
+    let b = c in
     let set = set_in (row_value b.args.set) in
     let many = lt-ltb 1 (length (members set)) (omega arith) in
-    token_new b.args.tokens b.requires.1.1.1.1.0 c.place.ensures (c.before.renumbered.ensures ∙ pair_first set) many (b.requires.1.1.1.1.1 many)
+    token_new b.args.tokens b.requires.1.1.1.1.0 c.place.ensures (c.renumbered-key.ensures ∙ pair_first set) many (b.requires.1.1.1.1.1 many)
 
 lowest_requires : tie.Need-lowest-requires
 lowest_requires c κs = search rules
 
-returns_2 : tie.Need-returns-2
+returns_2 : tie.Need-returns
 returns_2 c =
-    let b = c.before.before.before in
+    let b = c in
     let set = set_in (row_value b.args.set) in
     c.lowest.ensures ∙ token_own b.args.tokens (keys b.args.count b.args.sets.now) set (le-ltb 1 (length (members set)) (omega arith))
 
