@@ -1,4 +1,6 @@
 // The agents (`agents`) and procedures of a plain score, written.
+#![tactic(auto)]
+
 pub mod agents;
 
 ghost use Rattle.std.specs.Prelude.{◌≡◌, ◌+◌, ◌*◌, ◌-◌, ◌≤◌, length};

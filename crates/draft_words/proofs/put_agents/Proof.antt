@@ -14,88 +14,88 @@ use Rattle.draft_words.proofs.Pairs.{agents_few, agents_many, agent_entry, agent
 use Rattle.draft_words.proofs.put_agents.Statement.{statement}
 use Rattle.draft_words.proofs.put_agents.Tie as tie
 
-abbrev invariant-loop : tie.invariant-loop
-invariant-loop plain₀ draft table sets n k₀ plain k = (k ≤ n.copied) × (length plain ≡ length plain₀) × Putting agent_word (plain_of (decode_draft draft)).agents 2 plain₀ k plain
+abbrev invariant-loop-k : tie.invariant-loop-k
+invariant-loop-k plain₀ draft table sets n k₀ plain k = (k ≤ n.copied) × (length plain ≡ length plain₀) × Putting agent_word (plain_of (decode_draft draft)).agents 2 plain₀ k plain
 
-abbrev decreases-loop : tie.decreases-loop
-decreases-loop plain₀ draft table sets n k₀ plain k = n.copied - k
+abbrev decreases-loop-k : tie.decreases-loop-k
+decreases-loop-k plain₀ draft table sets n k₀ plain k = n.copied - k
 
 -- Stations of the walk, each from a later place.
-abbrev to_start : tie.At-loop invariant-loop decreases-loop → tie.Start invariant-loop decreases-loop
+abbrev to_start : tie.At-loop-k invariant-loop-k decreases-loop-k → tie.Start invariant-loop-k decreases-loop-k
 to_start c = c.before.before.before
 
-abbrev to_loop : tie.After-agent-word invariant-loop decreases-loop → tie.At-loop invariant-loop decreases-loop
+abbrev to_loop : tie.After-agent_word-w invariant-loop-k decreases-loop-k → tie.At-loop-k invariant-loop-k decreases-loop-k
 to_loop c = c.before.before.before.before.before
 
-loop_holds : tie.Need-loop-init invariant-loop decreases-loop
-loop_holds c = let a = c.before.before.args in (omega arith, refl, putting_none agent_word (plain_of (decode_draft a.draft.now)).agents 2 a.plain.now)
+loop_holds : tie.Need-loop-k-init invariant-loop-k decreases-loop-k
+loop_holds c = let a = c.args in (omega arith, refl, putting_none agent_word (plain_of (decode_draft a.draft.now)).agents 2 a.plain.now)
 
-mul_plain_agent : tie.Need-overflow-mul-plain-agent invariant-loop decreases-loop
-mul_plain_agent c = omega (arith, agents_few (to_start c.before.before).pre.0)
+mul_plain_agent : tie.Need-offset_bounds-table-k invariant-loop-k decreases-loop-k
+mul_plain_agent c = omega (arith, agents_few (to_start c.before.before).requires.0)
 
-element_copy_out_plain_agent : tie.Need-element-copy-out-plain-agent invariant-loop decreases-loop
-element_copy_out_plain_agent c = omega (arith, agents_few (to_start c.before.before).pre.0)
+element_copy_out_plain_agent : tie.Need-bounds-table-k invariant-loop-k decreases-loop-k
+element_copy_out_plain_agent c = omega (arith, agents_few (to_start c.before.before).requires.0)
 
-plain_agent_requires : tie.Need-plain-agent-requires invariant-loop decreases-loop
+plain_agent_requires : tie.Need-plain_agent-requires invariant-loop-k decreases-loop-k
 plain_agent_requires c κs =
-    let at-loop = c.before.before.before in
-    let b = to_start at-loop in (b.pre.0, agent_entry b.pre.0 at-loop.loop.k (omega arith))
+    let at-loop = c in
+    let b = to_start at-loop.before.before.before in (b.requires.0, agent_entry b.requires.0 at-loop.loop-k.k (omega arith))
 
 -- the agent is the plain score's
-made : (c : tie.After-plain-agent invariant-loop decreases-loop) → c.plain_agent_lem.result ≡ agent_at (plain_of (decode_draft (to_start c.before.before.before.before).args.draft.now)) c.before.before.before.before.loop.k
+made : (c : tie.After-plain_agent invariant-loop-k decreases-loop-k) → c.plain_agent.result ≡ agent_at (plain_of (decode_draft (to_start c.before.before.before.before).args.draft.now)) c.loop-k.k
 made c =
-    let at-loop = c.before.before.before.before in
-    c.plain_agent_lem.ensures ∙ agent_here (to_start at-loop).requires.0 at-loop.loop.k (omega arith)
+    let at-loop = c in
+    c.plain_agent.ensures ∙ agent_here (to_start at-loop.before.before.before.before).requires.0 at-loop.loop-k.k (omega arith)
 
-agent_word_requires : tie.Need-agent-word-requires invariant-loop decreases-loop
+agent_word_requires : tie.Need-agent_word-w-requires invariant-loop-k decreases-loop-k
 agent_word_requires c κs =
-    let at-loop = c.before.before.before.before in
-    let f : AgentFits c.plain_agent_lem.result = subst⁻¹ AgentFits (made c) (agent_fits (to_start at-loop).requires.0 at-loop.loop.k (omega arith)) in
+    let at-loop = c in
+    let f : AgentFits c.plain_agent.result = subst⁻¹ AgentFits (made c) (agent_fits (to_start at-loop.before.before.before.before).requires.0 at-loop.loop-k.k (omega arith)) in
     (f.tokens, (f.parts, f.procedures))
 
-add_put_word : tie.Need-overflow-add-put-word invariant-loop decreases-loop
-add_put_word c = omega (arith, agents_few (to_start (to_loop c.before)).pre.0)
+add_put_word : tie.Need-overflow_add-k invariant-loop-k decreases-loop-k
+add_put_word c = omega (arith, agents_few (to_start (to_loop c.before)).requires.0)
 
-put_word_requires : tie.Need-put-word-requires invariant-loop decreases-loop
+put_word_requires : tie.Need-put_word-requires invariant-loop-k decreases-loop-k
 put_word_requires c κs = omega arith
 
-add_k : tie.Need-overflow-add-k invariant-loop decreases-loop
-add_k c = omega (arith, agents_few (to_start (to_loop c.before.before.before.before)).pre.0)
+add_k : tie.Need-overflow_add-k-in-loop-k invariant-loop-k decreases-loop-k
+add_k c = omega (arith, agents_few (to_start (to_loop c.before.before.before.before)).requires.0)
 
-loop_less : tie.Need-loop-smaller invariant-loop decreases-loop
+loop_less : tie.Need-loop-k-smaller invariant-loop-k decreases-loop-k
 loop_less c = search rules
 
-loop_again : tie.Need-loop-preserved invariant-loop decreases-loop
+loop_again : tie.Need-loop-k-preserved invariant-loop-k decreases-loop-k
 loop_again c =
-    let at-agent-word = c.before.before.before.before in
-    let at-loop = to_loop at-agent-word in
+    let at-agent-word = c in
+    let at-loop = to_loop at-agent-word.before.before.before.before in
     let b = to_start at-loop in
     let a = b.args in
-    let l = at-loop.loop in
-    let word = at-agent-word.agent-word in
-    let put_word = c.before.before.put_word in (
+    let l = at-loop.loop-k in
+    let word = at-agent-word.agent_word-w in
+    let put_word = c.put_word in (
       omega arith,
-      put_word.auto.0 ∙ l.inv.1,
-      putting_more agent_word (plain_of (decode_draft a.draft.now)).agents 2 a.plain.now Skip l.k (2 + l.k) word.result l.plain put_word.new.0
-          (omega (arith, agents_many b.pre.0)) refl (omega arith) (word.ensures ∙ ap agent_word (made at-agent-word.before)) l.inv.2 put_word.ensures,
+      put_word.auto.bytes ∙ l.invariant.1,
+      putting_more agent_word (plain_of (decode_draft a.draft.now)).agents 2 a.plain.now Skip l.k (2 + l.k) word.result l.plain put_word.new.bytes
+          (omega (arith, agents_many b.requires.0)) refl (omega arith) (word.ensures ∙ ap agent_word (made at-agent-word.before.before.before.before.before)) l.invariant.2 put_word.ensures,
     )
 
-same_length : tie.Need-same-length invariant-loop decreases-loop
+same_length : tie.Need-shape_of-plain invariant-loop-k decreases-loop-k
 same_length c = search rules
 
-returns : tie.Need-returns invariant-loop decreases-loop
+returns : tie.Need-returns invariant-loop-k decreases-loop-k
 returns c =
     let b = to_start c.before.before in
     let a = b.args in
-    let l = c.before.before.loop in
-    putting_all agent_word (plain_of (decode_draft a.draft.now)).agents 2 a.plain.now l.k l.plain (omega (arith, agents_many b.pre.0)) l.invariant.2
+    let l = c.loop-k in
+    putting_all agent_word (plain_of (decode_draft a.draft.now)).agents 2 a.plain.now l.k l.plain (omega (arith, agents_many b.requires.0)) l.invariant.2
 
 pub put_agents_spec : {M : Type 1} → statement M
 put_agents_spec =
     tie.close
     (tie.spec
-    invariant-loop
-    decreases-loop
+    invariant-loop-k
+    decreases-loop-k
     loop_holds
     mul_plain_agent
     element_copy_out_plain_agent

@@ -16,21 +16,21 @@ use Rattle.draft_words.proofs.agents.plain_call.Tie as tie
 listed : (c : tie.Start) → Listed c.args.draft.now c.args.n c.args.table.now c.args.sets.now (row_value c.args.row) (Call c.args.procedure)
 listed c = record { gathered = c.requires.0; listed = c.requires.1.0; written = c.requires.1.1 }
 
-add_renumbered : tie.Need-overflow-add-renumbered
-add_renumbered c = omega (arith, call_few (listed c.before) c.before.args.procedure (Memᴰ.head refl))
+add_renumbered : tie.Need-overflow_add-procedure
+add_renumbered c = omega (arith, call_few (listed c.before) c.args.procedure (Memᴰ.head refl))
 
-renumbered_requires : tie.Need-renumbered-requires
+renumbered_requires : tie.Need-renumbered-called-requires
 renumbered_requires c κs = search rules
 
 place_requires : tie.Need-place-requires
-place_requires c κs = let g = c.before.before.requires.0 in (g.table_long, (g.pairs_fit, table_rises g))
+place_requires c κs = let g = c.requires.0 in (g.table_long, (g.pairs_fit, table_rises g))
 
-called : (c : tie.After-place) → c.place.result ≡ c.before.before.before.args.n.copied + index_of (pair (procedure_at c.before.before.before.args.procedure) (set_in (row_value c.before.before.before.args.row))) (procedures_in c.before.before.before.args.draft.now)
+called : (c : tie.After-place) → c.place.result ≡ c.args.n.copied + index_of (pair (procedure_at c.args.procedure) (set_in (row_value c.args.row))) (procedures_in c.args.draft.now)
 called c =
-    let b = c.before.before.before in
-    procedure_stands b.requires.0 c.place.ensures c.before.renumbered.ensures (call_stands (listed b) b.args.procedure (Memᴰ.head refl))
+    let b = c in
+    procedure_stands b.requires.0 c.place.ensures c.renumbered-called.ensures (call_stands (listed b.before.before.before) b.args.procedure (Memᴰ.head refl))
 
-sub_t9 : tie.Need-overflow-sub-t9
+sub_t9 : tie.Need-overflow_sub-result
 sub_t9 c = omega (arith, called c.before)
 
 returns : tie.Need-returns
