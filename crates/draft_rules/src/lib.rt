@@ -1,4 +1,6 @@
 // The rules of a plain score, written.
+#![tactic(auto)]
+
 ghost use Rattle.std.specs.Prelude.{◌≡◌, ℕ, ◌+◌, ◌*◌, ◌<◌, ◌≤◌, length};
 ghost use mathlib.Core.List.{map, Memᴰ};
 ghost use Rattle.tcc.specs.Limits.{most_tokens};
