@@ -1,4 +1,6 @@
 // The translation of a draft over lent buffers.
+#![tactic(auto)]
+
 ghost use Rattle.std.specs.Prelude.{◌≡◌, ◌++◌, length, drop};
 ghost use Rattle.format.specs.Limits.{most_bytes};
 ghost use Rattle.check_verdicts.specs.declared.Verdict.TheVariants.{Accepted};
