@@ -1,4 +1,6 @@
 // The functions of the library, as score_c exports them to C.
+#![tactic(auto)]
+
 ghost use Rattle.instant_call.specs.InstantCall.{lent};
 ghost use Rattle.journal_run.specs.RunCall.{lent as lent_to_run};
 ghost use Rattle.score.specs.CheckCall.{CheckCall};

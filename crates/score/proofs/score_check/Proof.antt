@@ -14,13 +14,13 @@ use Rattle.score.proofs.score_check.Tie as tie
 check_requires : tie.Need-check-requires
 check_requires c κs = search rules
 
-of_verdict_requires : tie.Need-of-verdict-requires
+of_verdict_requires : tie.Need-of_verdict-requires
 of_verdict_requires c κs =
-    let s = c.before.before.args.score.now in
+    let s = c.args.score.now in
     rw c.check.ensures (reply_fits (verdict_number (verdict s)) (verdict_value (verdict s)) (number_few (verdict s)) (verdict_small s))
 
 returns : tie.Need-returns
-returns c = record { answered = c.of-verdict.ensures ∙ ap (λ v. packed (of_verdict v)) c.before.check.ensures }
+returns c = record { answered = c.of_verdict.ensures ∙ ap (λ v. packed (of_verdict v)) c.check.ensures }
 
 pub score_check_spec : {M : Type 1} → statement M
 score_check_spec = tie.close (tie.spec check_requires of_verdict_requires returns)
