@@ -1,4 +1,6 @@
 // A run from the start state, and its number.
+#![tactic(auto)]
+
 ghost use Rattle.std.specs.Prelude.{◌≡◌, length};
 ghost use Rattle.format.specs.Decode.{decode};
 ghost use Rattle.check_verdicts.specs.Verdicts.{verdict_number};

@@ -13,19 +13,19 @@ wide : (a : ℕ) → (eqb (a / 2 ^ 61) 0 || eqb (a / 2 ^ 61) 5) ≡ false → (a
 unfolding number_in
 wide a z o = rw (z, ne_eqb _ 1 o)
 
-add_result : tie.Need-overflow-add-result
+add_result : tie.Need-overflow_add-result
 add_result c = search rules
 
-returns : tie.Need-returns
+returns : tie.Need-returns-then-layout
 unfolding number_in
-returns c = let e : (eqb (c.before.args.answer / 2 ^ 61) 0 || eqb (c.before.args.answer / 2 ^ 61) 5) ≡ true = c.if1.true in rw e
+returns c = let e : (eqb (c.args.answer / 2 ^ 61) 0 || eqb (c.args.answer / 2 ^ 61) 5) ≡ true = c.if-layout.true in rw e
 
-returns_2 : tie.Need-returns-2
+returns_2 : tie.Need-returns-then-layout-eq1
 unfolding number_in
-returns_2 c = let e : (eqb (c.before.before.args.answer / 2 ^ 61) 0 || eqb (c.before.before.args.answer / 2 ^ 61) 5) ≡ false = c.before.if1.false in rw (e, eq-eqb _ 1 c.if2.true)
+returns_2 c = let e : (eqb (c.args.answer / 2 ^ 61) 0 || eqb (c.args.answer / 2 ^ 61) 5) ≡ false = c.if-layout.false in rw (e, eq-eqb _ 1 c.if-layout-eq1.true)
 
-returns_3 : tie.Need-returns-3
-returns_3 c = wide c.before.before.args.answer c.before.if1.false c.if2.false
+returns_3 : tie.Need-returns-else-layout-eq1
+returns_3 c = wide c.args.answer c.if-layout.false c.if-layout-eq1.false
 
 pub number_in_spec : {M : Type 1} → statement M
 number_in_spec = tie.close (tie.spec add_result returns returns_2 returns_3)

@@ -9,23 +9,23 @@ use Rattle.runner_run.proofs.start.Tie as tie
 check_requires : tie.Need-check-requires
 check_requires c κs = search rules
 
-number_of_requires : tie.Need-number-of-requires
+number_of_requires : tie.Need-number_of-requires
 number_of_requires c κs = search rules
 
-slice_aggregate_write_start : tie.Need-slice-aggregate-write-start
+slice_aggregate_write_start : tie.Need-slice_bounds-write_start-end
 slice_aggregate_write_start c = search rules
 
-write_start_requires : tie.Need-write-start-requires
+write_start_requires : tie.Need-write_start-requires
 write_start_requires c κs =
-    let s = c.before.before.before.before.before.args.score.now in
-    let zero : c.before.before.number_of_lem.result ≡ 0 = c.before.if1.true in
-    (playable s (accepted s c.before.before.number_of_lem.ensures c.before.before.before.check.ensures zero), refl)
+    let s = c.args.score.now in
+    let zero : c.number_of.result ≡ 0 = c.if-number_of-eq0.true in
+    (playable s (accepted s c.number_of.ensures c.check.ensures zero), refl)
 
-returns : tie.Need-returns
+returns : tie.Need-returns-then-number_of-eq0
 returns c = search rules
 
-returns_2 : tie.Need-returns-2
-returns_2 c = (refl, λ z. absurd (c.if1.false (c.before.number_of_lem.ensures ∙ ap verdict_number c.before.before.check.ensures ∙ z)))
+returns_2 : tie.Need-returns-else-number_of-eq0
+returns_2 c = (refl, λ z. absurd (c.if-number_of-eq0.false (c.number_of.ensures ∙ ap verdict_number c.check.ensures ∙ z)))
 
 pub start_spec : {M : Type 1} → statement M
 start_spec =
