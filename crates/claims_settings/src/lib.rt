@@ -1,1 +1,2 @@
 // Switch settings before a tour: what a rigger may rely on, over the exported functions' contracts; theorems, no code.
+#![tactic(auto)]
