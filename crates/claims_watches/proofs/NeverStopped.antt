@@ -22,7 +22,9 @@ use Rattle.draft_language.specs.Unwatched.{NeverIn}
 use Rattle.draft_language.proofs.Absent.{chain_without}
 use Rattle.draft_language.proofs.Unwatched.{unwatched_shown}
 use Rattle.draft_plain.specs.Plain.{plain_of, fits}
-use Rattle.draft_plain.proofs.Carrying.{Standing, plain_carries, start_standing, plain_start}
+use Rattle.draft_plain.proofs.Carrying.{place_of, Standing, plain_carries, start_standing, plain_start}
+use Rattle.draft_language.proofs.Carries.{OkEnd}
+use Rattle.draft_plain.proofs.Asked.{Member}
 use Rattle.draft_format.specs.DraftFile.{decode_draft}
 use Rattle.claims_demands.specs.Calls.{written}
 use Rattle.claims_demands.proofs.JournalExact.{runs_accepted}
@@ -31,10 +33,14 @@ use Rattle.claims_watches.specs.NeverStopped.{NeverWatched, unwatched_history, N
 use Rattle.claims_watches.proofs.Translations.{translated_wrote, draft_lawful, plain_accepted, plain_decoded, taken_known}
 use Rattle.claims_watches.proofs.TranslationExact.{translation_exact}
 
+all_ok : (d : Draft) (e : End) → OkEnd d (plain_of d) (Member d) (λ s. Unit {0}) (Standing d) (place_of d) e
+all_ok d aborted = tt
+all_ok d (left l s) = tt
+
 never_in : (d : Draft) → LawfulDraft d → fits (plain_of d) ≡ true → {instants : List (List ℕ)} {ends : List End} → InputsKnown d.tokens instants →
     Chain d (start_copies d) instants ends → NeverWatched d (plain_of d) instants → NeverIn d ends
 never_in d law fit known chain never l s m t watches =
-    chain_without (plain_carries d law fit) t chain (plain.root_of (plain_of d) 0 ∷ []) (λ e k. elim e [ aborted ↦ tt | left l s ↦ tt ]) known
+    chain_without (plain_carries d law fit) t chain (plain.root_of (plain_of d) 0 ∷ []) (λ e k. all_ok d e) known
     (on_cons {P = λ c. Standing d c.agent c.under} (start_standing d) (λ c k. elim k [ ])) (rw (plain_start d law fit) (same_refl _))
     (λ a k. never a k t watches) (left l s) m
 
