@@ -10,6 +10,10 @@ use Rattle.draft_gathering.proofs.Stages.{accepted_translatable, Bounds, fit_bou
 use Rattle.draft_gathering.proofs.gather_sets.Statement.{statement}
 use Rattle.draft_gathering.proofs.gather_sets.Tie as tie
 
+-- A station of the walk.
+abbrev to_start : tie.After-enter_asked-count → tie.Start
+to_start c = c.before.before.before
+
 translatable : (c : tie.After-shared_slice_known-1) → Translatable c.args.draft.now
 translatable c = accepted_translatable c.args.draft.now (λ i. omega (arith, c.shared_slice_known-1.given i)) c.requires.0.accepted
 
@@ -59,7 +63,7 @@ member_count_requires c κs =
 add_if2 : tie.Need-overflow_add-rules-3
 add_if2 c =
     let w = c in
-    omega (arith, bounds w.before.before.before.before.before.before.before.before.before, w.word_count-words.ensures, c.member_count.ensures.1)
+    omega (arith, bounds (to_start w.before.before.before.before.before.before), w.word_count-words.ensures, c.member_count.ensures.1)
 
 returns_2 : tie.Need-returns-then-rules-member_count-gt-MOST_RULES
 returns_2 c =
