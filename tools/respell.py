@@ -7,7 +7,7 @@ usage: respell.py [--check]    at the top of the repository
 
 In .antt files, in the clauses and imports of .rt files and in must-fail edits: each name that begins with a small letter and has a capital
 after one, and each name with a dash that a file of specs/ or proofs/ declares (a definition, lemma, field or constructor). Types, modules and
-names of the library stay. It stops where two names of a file would fall together.
+names of the library stay. It prints where two names of a file fall together: a function of src/ with its own word of specs/, as they may.
 """
 
 import glob
