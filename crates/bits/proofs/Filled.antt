@@ -3,7 +3,6 @@
 --     has_set          the numbers flagged
 --     set_kept         the numbers flagged for those that pass a test are those that pass it
 --     none_from, from_none     no number from n on is flagged: no flag from n on is set
---     spread_none, spread_more     bit by bit
 --     spread_zero      no bit is set, and no flag was
 --     Upto             the flags below m are as a test says, the others are not set
 --     upto_none, upto_spread       part by part
@@ -14,10 +13,10 @@ use mathlib.Core.List.{List}
 use mathlib.Core.Logic.{by_cases}
 use Prim.Native.Nat.{ℕ, ◌+◌, ◌-◌, ◌<◌, ◌≤◌}
 use native.Mathlib.Nat.{not-suc-le-zero}
-use native.Mathlib.Decide.{dec_lt, ℕ_discrete}
+use native.Mathlib.Decide.{dec_lt}
 use native.Mathlib.Omega.{arith}
-use lib.ListN.{length, get_or, set, replicate, length-set, length-replicate, get_or-replicate, get_or-eq_default}
-use lib.Seq.{get_or-set_same, get_or-set_other, ext_get_or}
+use lib.ListN.{length, get_or, replicate, length-replicate, get_or-replicate, get_or-eq_default}
+use lib.Seq.{ext_get_or}
 use lib.Dec.{leb}
 use borrow.Author.Tests.{leb-true, le-leb}
 use Rattle.laws.specs.Sets.{below, keep, any, has}
@@ -65,21 +64,6 @@ from_none n flags h = go (any (λ i. leb n i) (set_of flags)) refl
         let found = any_some (λ i. leb n i) (set_of flags) e in
         absurd (true_is_false (member_flag flags found.1) (h found.0 (leb-true n found.0 found.2)))
     go false e = e
-
-pub spread_none : (base w : ℕ) (flags : List Bool) → Spread base 0 w flags flags
-spread_none base w flags = record { long = refl; here = λ j h. absurd (not-suc-le-zero h); lower = λ i h. refl; upper = λ i h. refl }
-
-pub spread_more : (base j w : ℕ) (before flags : List Bool) (v : Bool) → base + j < length flags → v ≡ bit_at w j → Spread base j w before flags → Spread base (j + 1) w before (set flags (base + j) v)
-spread_more base j w before flags v within e s = record {
-  long = length-set flags (base + j) v ∙ s.long;
-  here = λ i h. go i h (ℕ_discrete i j);
-  lower = λ i h. get_or-set_other flags (base + j) i v false (λ t. omega arith) ∙ s.lower i h;
-  upper = λ i h. get_or-set_other flags (base + j) i v false (λ t. omega arith) ∙ s.upper i (omega arith);
-}
-  where
-    go : (i : ℕ) → i < j + 1 → Dec (i ≡ j) → get_or (set flags (base + j) v) (base + i) false ≡ bit_at w i
-    go i h (yes t) = ap (λ k. get_or (set flags (base + j) v) (base + k) false) t ∙ get_or-set_same flags (base + j) v false within ∙ e ∙ ap (bit_at w) (sym t)
-    go i h (no n) = get_or-set_other flags (base + j) (base + i) v false (λ t. n (omega arith)) ∙ s.here i (omega arith)
 
 pub record Upto (f : ℕ → Bool) (m n : ℕ) (flags : List Bool) : Type 0 where
   pub long : length flags ≡ n

@@ -11,11 +11,7 @@ ghost use Rattle.bits.specs.Spread.{Spread};
 pub fn clear(bytes: &mut [u8])
     ensures { bytes.new ≡ replicate (length bytes.old) 0 }
 {
-    let mut i = 0;
-    while i < bytes.len() {
-        bytes[i] = 0;
-        i += 1;
-    }
+    bytes.fill(0);
 }
 
 // Spreads the lowest bits of a word over the flags from a base on.
@@ -24,10 +20,8 @@ pub fn spread(flags: &mut [bool], base: usize, w: u32, count: usize)
     requires count_in_bounds { base + count ≤ length flags.old }
     ensures { Spread base count w flags.old flags.new }
 {
-    let mut j = 0;
-    while j < count {
-        flags[base + j] = words::bits(w, j as u32, 1) == 1;
-        j += 1;
+    for (j, flag) in flags[base..base + count].iter_mut().enumerate() {
+        *flag = words::bits(w, j as u32, 1) == 1;
     }
 }
 
@@ -42,10 +36,8 @@ pub fn gather(flags: &[bool], bound: usize, base: usize, count: usize) -> u32
         return 0;
     }
     let mut w: u32 = 0;
-    let mut j = 0;
-    while j < count {
-        w = w | (flags[base + j] as u32) << (j as u32);
-        j += 1;
+    for (j, flag) in flags[base..base + count].iter().enumerate() {
+        w |= u32::from(*flag) << j;
     }
     w
 }
@@ -56,24 +48,15 @@ pub fn put_word(bytes: &mut [u8], i: usize, w: u32)
     ensures { bytes.new ≡ take (4 * i) bytes.old ++ bytes_of (w ∷ []) ++ drop (4 * i + 4) bytes.old }
 {
     let at = 4 * i;
-    bytes[at] = (w % 256) as u8;
-    bytes[at + 1] = ((w >> 8) % 256) as u8;
-    bytes[at + 2] = ((w >> 16) % 256) as u8;
-    bytes[at + 3] = ((w >> 24) % 256) as u8;
+    bytes[at..at + 4].copy_from_slice(&w.to_le_bytes());
 }
 
 // Whether a word has a bit from a number on, its own bits being numbered from a base on.
 pub fn bit_from(w: u32, base: usize, from: usize) -> bool
     ensures { result ≡ not (eqb (w / 2 ^ (from - base)) 0) }
 {
-    if from <= base {
-        return w != 0;
-    }
-    let lowest = from - base;
-    if lowest >= 32 {
-        return false;
-    }
-    w >> (lowest as u32) != 0
+    let lowest = from.saturating_sub(base);
+    lowest < 32 && w >> lowest != 0
 }
 
 // Whether a flag from a number on is set.
@@ -81,10 +64,10 @@ pub fn any_from(flags: &[bool], from: usize) -> bool
     ensures { result ≡ any (λ i. leb from i) (set_of flags.now) }
 {
     let mut found = false;
-    let mut i = from;
-    while i < flags.len() {
-        found = found | flags[i];
-        i += 1;
+    if let Some(rest) = flags.get(from..) {
+        for flag in rest {
+            found |= *flag;
+        }
     }
     found
 }

@@ -2,12 +2,13 @@
 --     in_set_none    nothing is in 0
 --     in_set_or      the bitwise or is the union
 --     in_set_one     a one shifted left by p is the set of p alone
+--     in_set_past    where nothing is left of a number past q bits, no procedure from q on is in the set
 --     in_set_some    a set of n bits that is not 0 holds a procedure
 use mathlib.Core.Path.{◌≡◌, refl, sym, ap, ◌∙◌}
 use mathlib.Core.Bool.{true, false, ◌||◌}
-use Prim.Native.Nat.{ℕ, zero, suc, ◌+◌, ◌*◌, ◌-◌, ◌/◌, ◌%◌, ◌^◌, ◌<◌}
+use Prim.Native.Nat.{ℕ, zero, suc, ◌+◌, ◌*◌, ◌-◌, ◌/◌, ◌%◌, ◌^◌, ◌<◌, ◌≤◌}
 use native.Mathlib.Decide.{dec_lt, ℕ_discrete}
-use native.Mathlib.Nat.{one-mul, mod-lt, mod-eq_of_lt, div-eq_of_lt, pow-suc, mul-mod_left, div-one}
+use native.Mathlib.Nat.{one-mul, mod-lt, mod-eq_of_lt, div-eq_of_lt, pow-suc, mul-mod_left, div-one, zero-div}
 use native.Mathlib.Omega.{arith}
 use borrow.Author.Tests.{eq-eqb, ne_eqb}
 use lib.Bits.{bit_or, or_shr, or_mod}
@@ -63,6 +64,13 @@ in_set_one p q h = ap (λ n. eqb (n / 2 ^ q % 2) 1) (mod-eq_of_lt {m = 2 ^ 64} (
     go : Dec (p ≡ q) → eqb (2 ^ p / 2 ^ q % 2) 1 ≡ eqb p q
     go (yes e) = ap (λ n. eqb n 1) (ap (λ n. 2 ^ p / 2 ^ n % 2) (sym e) ∙ power_same p) ∙ sym (eq-eqb p q e)
     go (no n) = ap (λ k. eqb k 1) (power_other p q n) ∙ sym (ne_eqb p q n)
+
+pub in_set_past : (x q j : ℕ) → x / 2 ^ q ≡ 0 → q ≤ j → in_set x j ≡ false
+unfolding in_set
+in_set_past x q j e le =
+    let k : q + (j - q) ≡ j = omega arith in
+    let z : x / 2 ^ j ≡ 0 = ap (λ n. x / 2 ^ n) (sym k) ∙ sym (shr-shr x q (j - q)) ∙ ap (λ n. n / 2 ^ (j - q)) e ∙ zero-div (2 ^ (j - q)) in
+    ap (λ n. eqb (n % 2) 1) z
 
 pub in_set_some : (n x : ℕ) → x < 2 ^ n → (x ≡ 0 → ⊥) → (q : ℕ) × (q < n) × (in_set x q ≡ true)
 unfolding in_set

@@ -4,13 +4,14 @@
 --                                                           and whatever leads on through one of those is marked
 use mathlib.Core.Path.{◌≡◌, refl, sym, ap, ap₂, ◌∙◌}
 use mathlib.Core.Bool.{Bool, true, false, ◌&&◌, ◌||◌, or-false, or-true}
-use mathlib.Core.List.{List, []}
+use mathlib.Core.List.{List, [], ◌++◌}
 use mathlib.Core.Logic.{◌⊎◌, inl, inr}
-use Prim.Native.Nat.{ℕ, ◌+◌, ◌<◌, ◌≤◌}
-use native.Mathlib.Decide.{dec_lt, ℕ_discrete}
+use Prim.Native.Nat.{ℕ, ◌+◌, ◌-◌, ◌<◌, ◌≤◌}
+use native.Mathlib.Decide.{ℕ_discrete}
 use native.Mathlib.Nat.{not-suc-le-zero}
 use native.Mathlib.Omega.{arith}
-use lib.ListN.{length, get_or, set}
+use lib.ListN.{length, get_or, set, take, drop, get_or-append, length-append, length-drop}
+use Rattle.std.proofs.lemmas.List.{get_or-append_right, get_or-take, get_or-drop}
 use lib.Seq.{get_or-set_other}
 use Rattle.laws.proofs.Lists.{filled_more}
 use Rattle.check_calls.specs.Calls.{called, Stepped, Linked, one, more, Closed}
@@ -26,27 +27,27 @@ pub record Half (k p : ℕ) (before now : List (List Bool)) : Type 0 where
 pub half_none : (k : ℕ) (m : List (List Bool)) → Half k 0 m m
 half_none k m = record { done = λ p h. absurd (not-suc-le-zero h); left = λ p h. refl }
 
-pub half_all : (n k : ℕ) (m r : List (List Bool)) → length r ≡ length m → Half k n m r → Stepped n k m r
-half_all n k m r long h = record { long = long; exact = λ p q lt le. h.done p lt q le; rest = h.left }
-
-or_absorbs : (a b : Bool) → (a || (b && a)) ≡ a
-or_absorbs true b = refl
-or_absorbs false true = refl
-or_absorbs false false = refl
+-- the rows past the n that the step went over stand as they were
+pub half_all : (n k : ℕ) (m r : List (List Bool)) → k < n → n ≤ length m → length r ≡ n →
+    Half k n (take n m) r → Stepped n k m (r ++ drop n m)
+half_all n k m r within few long h =
+    record {
+      long = omega (arith, length-append r (drop n m), length-drop n m);
+      exact = λ p q lt le.
+          ap (λ row. get_or row q false) (get_or-append r (drop n m) [] p (omega arith))
+          ∙ h.done p lt q le
+          ∙ ap₂ ◌||◌ (front p q lt) (ap₂ ◌&&◌ (front p k lt) (front k q within));
+      rest = λ p le. get_or-append_right r (drop n m) n p [] long le ∙ get_or-drop n m (p - n) [] ∙ ap (λ i. get_or m i []) (omega arith);
+    }
+  where
+    front : (p q : ℕ) → p < n → called (take n m) p q ≡ called m p q
+    front p q lt = ap (λ row. get_or row q false) (get_or-take n m p [] lt)
 
 or_none : (a b c : Bool) → b ≡ false → a ≡ (a || (b && c))
 or_none a b c e = rw e (sym (or-false a))
 
 and_first : (b c : Bool) → b ≡ true → c ≡ (b && c)
 and_first b c e = rw e
-
--- row k is as it was before the step, also once it has been passed
-row_kept : (k p : ℕ) (m r : List (List Bool)) → Half k p m r → (q : ℕ) → q < 64 → called r k q ≡ called m k q
-row_kept k p m r h q lt = go (dec_lt k p)
-  where
-    go : Dec (k < p) → called r k q ≡ called m k q
-    go (yes l) = h.done k l q lt ∙ or_absorbs (called m k q) (called m k k)
-    go (no n) = ap (λ row. get_or row q false) (h.left k (omega arith))
 
 module _ (k p : ℕ) (m r : List (List Bool)) (h : Half k p m r) where
   row_left : (q : ℕ) → called r p q ≡ called m p q
@@ -66,7 +67,7 @@ module _ (k p : ℕ) (m r : List (List Bool)) (h : Half k p m r) where
           ∙ ap (λ j. stepped k m j q) (sym i)
 
   pub half_joined : called r p k ≡ true → p < length r → (row : List Bool) →
-      ((q : ℕ) → q < 64 → get_or row q false ≡ (called r p q || called r k q)) → Half k (p + 1) m (set r p row)
+      ((q : ℕ) → q < 64 → get_or row q false ≡ (called r p q || called m k q)) → Half k (p + 1) m (set r p row)
   half_joined e within row joins =
       record {
         done = filled_more (λ p' v. (q : ℕ) → q < 64 → get_or v q false ≡ stepped k m p' q) r p row [] within h.done here;
@@ -76,7 +77,7 @@ module _ (k p : ℕ) (m r : List (List Bool)) (h : Half k p m r) where
       here : (q : ℕ) → q < 64 → get_or row q false ≡ stepped k m p q
       here q lt =
           joins q lt
-          ∙ ap₂ ◌||◌ (row_left q) (row_kept k p m r h q lt ∙ and_first (called m p k) (called m k q) (sym (row_left k) ∙ e))
+          ∙ ap₂ ◌||◌ (row_left q) (and_first (called m p k) (called m k q) (sym (row_left k) ∙ e))
 
 pub record Upto (n k : ℕ) (before now : List (List Bool)) : Type 0 where
   pub sound : (p q : ℕ) → p < n → q < 64 → called now p q ≡ true → Linked n before p q

@@ -21,13 +21,9 @@ pub fn leads_to(agent: Agent, sets: &[u64]) -> u64
     ensures { (q : ℕ) → q < 64 → in_set result q ≡ leads_by agent sets.now q }
 {
     match agent {
-        Agent::Skip => 0,
-        Agent::Abort => 0,
-        Agent::Tell(_) => 0,
+        Agent::Skip | Agent::Abort | Agent::Tell(_) | Agent::Next(_) | Agent::Unless(_, _) => 0,
         Agent::Parallel(first, second) => sets[first] | sets[second],
         Agent::When(_, body) => sets[body],
-        Agent::Next(_) => 0,
-        Agent::Unless(_, _) => 0,
         Agent::Call(procedure) => 1 << procedure,
     }
 }
@@ -38,11 +34,12 @@ pub fn row_of(set: u64) -> Row
 {
     let mut row = [false; 64];
     let mut rest = set;
-    let mut q = 0;
-    while rest != 0 {
-        row[q] = rest % 2 == 1;
-        rest = rest / 2;
-        q += 1;
+    for mark in &mut row {
+        if rest == 0 {
+            break;
+        }
+        *mark = rest % 2 == 1;
+        rest /= 2;
     }
     row
 }
@@ -53,10 +50,8 @@ pub fn close(procedures: usize, rows: &mut Rows)
     requires rows_len { length rows.old ≡ 64 }
     ensures { Closed procedures rows.old rows.new }
 {
-    let mut k = 0;
-    while k < procedures {
+    for k in 0..procedures {
         close_through(k, procedures, rows);
-        k += 1;
     }
 }
 
@@ -67,12 +62,11 @@ fn close_through(k: usize, procedures: usize, rows: &mut Rows)
     requires rows_len { length rows.old ≡ 64 }
     ensures { Stepped procedures k rows.old rows.new }
 {
-    let mut p = 0;
-    while p < procedures {
-        if rows[p][k] {
-            rows[p] = joined(rows[p], rows[k]);
+    let onward = rows[k];
+    for row in &mut rows[..procedures] {
+        if row[k] {
+            *row = joined(*row, onward);
         }
-        p += 1;
     }
 }
 
@@ -80,11 +74,9 @@ fn close_through(k: usize, procedures: usize, rows: &mut Rows)
 fn joined(a: Row, b: Row) -> Row
     ensures { (q : ℕ) → q < 64 → get_or result q false ≡ (get_or a q false || get_or b q false) }
 {
-    let mut row = [false; 64];
-    let mut q = 0;
-    while q < 64 {
-        row[q] = a[q] | b[q];
-        q += 1;
+    let mut row = a;
+    for (q, mark) in row.iter_mut().enumerate() {
+        *mark |= b[q];
     }
     row
 }

@@ -1,9 +1,13 @@
 -- Unguarded calls, read off the sets of the agents; their circles, read off the closed rows.
---     calls_known, roots_below     of a score whose words are as their places ask: its calls name its procedures, its roots its agents
+--     calls_known         of a score whose words are as their places ask: its calls name its procedures
+--     roots_are, few_procedures, few_agents     it has as many procedures as its head says, and no more than a head can say
+--     root_below, roots_below                   and its roots are agents of it
 --     call_here           a procedure whose root's set is not 0 calls one unguarded
 --     calls_none          where all those sets are 0, none does
+--     calls_exact         so a search through those sets says whether one does
 --     none_circular       and then no procedure lies on a circle
 --     marked_circular     row p marks p exactly if unguarded calls lead from p back to itself
+--     lowest_marked       so the first row that marks its own procedure is that of the lowest on a circle
 --     circle_here         the lowest circle from p on is p, if p lies on one
 --     circle_later        else it is the lowest from p + 1 on
 --     circle_none         past the last procedure there is none
@@ -13,37 +17,53 @@
 use mathlib.Core.Path.{◌≡◌, refl, sym, ap, subst, ◌∙◌}
 use mathlib.Core.Bool.{Bool, true, false, cond, false≢true}
 use mathlib.Core.List.{List}
+use Rattle.std.specs.Prelude.{Option, MatchOption, ◌≢◌}
+use Rattle.std.specs.List.{range_with_len, HoldsAt, AllWithin}
+use Rattle.std.proofs.Common.{None, Some, MatchBool}
+use Rattle.std.proofs.lemmas.List.FromFn.{length-range_with_len, get_or-range_with_len}
 use Prim.Native.Nat.{ℕ, zero, suc, ◌+◌, ◌-◌, ◌^◌, ◌<◌, ◌≤◌}
-use native.Mathlib.Nat.{not-suc-le-zero, le_of_suc-le-suc, add-zero, add-suc, suc-add, sub-zero}
+use native.Mathlib.Nat.{not-suc-le-zero, le_of_suc-le-suc, add-zero, zero-add, add-suc, suc-add, sub-zero}
 use native.Mathlib.Omega.{arith}
 use native.Mathlib.Numerals.{add-one}
 use lib.ListN.{length, get_or}
 use Rattle.tcc.specs.Score.{Score, root_of}
 use Rattle.tcc.specs.Unguarded.{Leads, Reaches, circular, one as one_call, more as more-calls}
 use Rattle.tcc.proofs.Unguarded.{CallsKnown, leads_known, circular_exact, call_free}
+use Rattle.format.specs.declared.Sizes.{Sizes}
 use Rattle.format.specs.Decode.{sizes, decode}
-use Rattle.format.proofs.Decode.{decode_roots}
-use Rattle.check_verdicts.specs.declared.Verdict.{Verdict}
-use Rattle.check_verdicts.specs.declared.Verdict.TheVariants.{Accepted, Circle}
+use Rattle.format.proofs.Decode.{decode_roots, sizes_few}
+use Rattle.check_verdicts.specs.Verdict.{Verdict, Accepted, Circle}
 use Rattle.check_verdicts.specs.Verdicts.{verdict_number}
 use Rattle.check_faults.specs.Faultless.{Faultless}
 use Rattle.check_faults.proofs.Accepted.{procedures_known, roots_known}
-use Rattle.check_calls.specs.Calls.{called, Direct, Linked, one, more, Closed, in_set, Gathered}
+use Rattle.check_calls.specs.Calls.{Exactly, called, Direct, Linked, one, more, Closed, in_set, Gathered}
 use Rattle.check_calls.proofs.ProcedureSets.{in_set_none, in_set_some}
 use Rattle.check_circles.specs.Circles.{circle_from}
-use Rattle.check_circles.specs.Lowest.{UnguardedCall, LowestCircular}
+use Rattle.check_circles.specs.Lowest.{UnguardedCall, LowestOnCircle, NoneOnCircle, LowestCircular}
 
 same_truth : (a b : Bool) → (a ≡ true → b ≡ true) → (b ≡ true → a ≡ true) → a ≡ b
 same_truth true b f g = sym (f refl)
 same_truth false true f g = g refl
 same_truth false false f g = refl
 
-module _ (s : List ℕ) (h : Faultless s) where
-  pub calls_known : CallsKnown (decode s)
-  calls_known i p m = omega (arith, procedures_known s h i p m, decode_roots s h.enough)
+pub calls_known : (s : List ℕ) → Faultless s → CallsKnown (decode s)
+calls_known s h i p m = omega (arith, procedures_known s h i p m, decode_roots s h.enough)
 
-  pub roots_below : (agents : ℕ) → agents ≡ (sizes s).agents → (p : ℕ) → p < length (decode s).roots → root_of (decode s) p < agents
-  roots_below agents e p lt = omega (arith, roots_known s h p (omega (arith, decode_roots s h.enough)))
+module _ (s : List ℕ) (h : Faultless s) (head : Sizes) (e : head ≡ sizes s) where
+  pub roots_are : length (decode s).roots ≡ head.procedures
+  roots_are = decode_roots s h.enough ∙ sym (ap (λ k. k.procedures) e)
+
+  pub few_procedures : head.procedures ≤ 64
+  few_procedures = omega (arith, ap (λ k. k.procedures) e, sizes_few s)
+
+  pub few_agents : head.agents ≤ 1024
+  few_agents = omega (arith, ap (λ k. k.agents) e, sizes_few s)
+
+  pub root_below : (p : ℕ) → p < head.procedures → root_of (decode s) p < head.agents
+  root_below p lt = omega (arith, ap (λ k. k.agents) e, roots_known s h p (omega (arith, ap (λ k. k.procedures) e)))
+
+  pub roots_below : (p : ℕ) → p < length (decode s).roots → root_of (decode s) p < head.agents
+  roots_below p lt = root_below p (omega (arith, roots_are))
 
 module _ (sc : Score) (n : ℕ) (sets : List ℕ) (gathered : Gathered sc n sets) (rooted : (p : ℕ) → p < length sc.roots → root_of sc p < n) where
   pub call_here : (p : ℕ) → p < length sc.roots → get_or sets (root_of sc p) 0 < 2 ^ 64 → (get_or sets (root_of sc p) 0 ≡ 0 → ⊥) → UnguardedCall sc
@@ -58,12 +78,28 @@ module _ (sc : Score) (n : ℕ) (sets : List ℕ) (gathered : Gathered sc n sets
       let held : in_set (get_or sets root 0) q ≡ true = (gathered.exact root q (rooted call.caller call.known) (omega (arith, leads_known known call.leads))).1 call.leads in
       false≢true (sym (in_set_none q) ∙ ap (λ x. in_set x q) (sym (none call.caller call.known)) ∙ held)
 
-pub none_circular : (sc : Score) → CallsKnown sc → (UnguardedCall sc → ⊥) → LowestCircular sc (length sc.roots)
-none_circular sc known none = record {
-  within = omega arith;
-  below = λ p lt. call_free sc known p (λ q l. none (record { caller = p; known = lt; callee = q; leads = l }));
-  here = λ lt. absurd (omega arith);
-}
+  -- the answer of a search through the roots for a set that is not 0
+  pub calls_exact : CallsKnown sc → length sc.roots ≤ 64 → ((r : ℕ) → get_or sets r 0 < 2 ^ 64) →
+      (m : ℕ) → length sc.roots ≡ m → (found : Bool) →
+      MatchBool found
+      ((k : ℕ) × (k < length (range_with_len 0 m)) × HoldsAt (λ p. get_or sets (root_of sc p) 0 ≢ 0) (range_with_len 0 m) k)
+      (AllWithin (λ p. get_or sets (root_of sc p) 0 ≡ 0) (range_with_len 0 m) 0 (length (range_with_len 0 m))) →
+      Exactly found (UnguardedCall sc)
+  calls_exact known few small m count true (k, lt, some) =
+      let within : k < m = omega (arith, length-range_with_len 0 m) in
+      (λ e. call_here k (omega arith) (small (root_of sc k)) (rw (get_or-range_with_len, zero-add) at (some 0)), λ call. refl)
+  calls_exact known few small m count false none = (
+    λ e. absurd (false≢true e),
+    λ call. absurd (calls_none known few zeros call),
+  )
+    where
+      zeros : (p : ℕ) → p < length sc.roots → get_or sets (root_of sc p) 0 ≡ 0
+      zeros p lt =
+          let within : p < m = omega arith in
+          rw (get_or-range_with_len, zero-add) at (none p 0 (omega arith) (omega (arith, length-range_with_len 0 m)))
+
+pub none_circular : (sc : Score) → CallsKnown sc → (UnguardedCall sc → ⊥) → NoneOnCircle sc
+none_circular sc known none = record { all = λ p lt. call_free sc known p (λ q l. none (record { caller = p; known = lt; callee = q; leads = l })) }
 
 module _ (sc : Score) (n : ℕ) (count : length sc.roots ≡ n) (few : n ≤ 64) (known : CallsKnown sc) (m : List (List Bool)) (direct : Direct sc m) where
   led : (p q : ℕ) → p < n → q < 64 → called m p q ≡ true → Leads sc (root_of sc p) q
@@ -88,6 +124,18 @@ module _ (sc : Score) (n : ℕ) (count : length sc.roots ≡ n) (few : n ≤ 64)
       (λ e. (circular_exact sc known p).1 (linked_reaches p p lp lp ((closed.exact p p lp (omega arith)).0 e)))
       (λ e. (closed.exact p p lp (omega arith)).1 (reaches_linked p p lp ((circular_exact sc known p).0 e)))
 
+  pub lowest_marked : (r : List (List Bool)) → Closed n m r → (o : Option ℕ) →
+      MatchOption o ((k : ℕ) → 0 ≤ k → k < n → called r k k ≡ false)
+      (λ p. (0 ≤ p) × (p < n) × (called r p p ≡ true) × ((k : ℕ) → 0 ≤ k → k < p → called r k k ≡ false)) →
+      LowestCircular sc o
+  lowest_marked r closed None h = record { all = λ j lt. sym (marked_circular r closed j (omega arith)) ∙ h j (omega arith) (omega arith) }
+  lowest_marked r closed (Some p) h =
+      record {
+        known = omega arith;
+        below = λ j lt. sym (marked_circular r closed j (omega arith)) ∙ h.3 j (omega arith) lt;
+        here = sym (marked_circular r closed p h.1) ∙ h.2;
+      }
+
 circle_here : (sc : Score) (p n : ℕ) → p < n → circular sc p ≡ true → circle_from sc p (n - p) ≡ Circle p
 unfolding circle_from
 circle_here sc p n lt e =
@@ -109,12 +157,15 @@ circle_past sc (suc p) n le below =
     ∙ circle_later sc p n (omega arith) (below p (omega arith))
     ∙ ap (λ j. circle_from sc j (n - j)) (add-one p)
 
-module _ (sc : Score) (p : ℕ) (low : LowestCircular sc p) where
-  pub lowest_here : p < length sc.roots → circle_from sc 0 (length sc.roots) ≡ Circle p
-  lowest_here lt = circle_past sc p (length sc.roots) low.within low.below ∙ circle_here sc p (length sc.roots) lt (low.here lt)
+pub lowest_here : (sc : Score) (p : ℕ) → LowestOnCircle sc p → circle_from sc 0 (length sc.roots) ≡ Circle p
+lowest_here sc p low =
+    let n = length sc.roots in
+    circle_past sc p n (omega (arith, low.known)) low.below ∙ circle_here sc p n low.known low.here
 
-  pub lowest_none : length sc.roots ≤ p → circle_from sc 0 (length sc.roots) ≡ Accepted
-  lowest_none le = circle_past sc p (length sc.roots) low.within low.below ∙ circle_none sc p (length sc.roots) le
+pub lowest_none : (sc : Score) → NoneOnCircle sc → circle_from sc 0 (length sc.roots) ≡ Accepted
+lowest_none sc none =
+    let n = length sc.roots in
+    circle_past sc n n (omega arith) none.all ∙ circle_none sc n n (omega arith)
 
 not_here : (b : Bool) (p : ℕ) (v : Verdict) → cond b (Circle p) v ≡ Accepted → (b ≡ false) × (v ≡ Accepted)
 not_here true p v e = let z : ◌≡◌ {A = ℕ} 7 0 = ap verdict_number e in absurd (omega arith)

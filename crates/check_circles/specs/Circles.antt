@@ -3,8 +3,7 @@
 use Rattle.std.specs.Prelude.{cond, ℕ, zero, suc}
 use Rattle.tcc.specs.Score.{Score}
 use Rattle.tcc.specs.Unguarded.{circular}
-use Rattle.check_verdicts.specs.declared.Verdict.{Verdict}
-use Rattle.check_verdicts.specs.declared.Verdict.TheVariants.{Accepted, Circle}
+use Rattle.check_verdicts.specs.Verdict.{Verdict, Accepted, Circle}
 
 unfoldable pub circle_from : Score → ℕ → ℕ → Verdict
 circle_from sc p zero = Accepted

@@ -14,6 +14,7 @@ use borrow.Author.Tests.{lt-ltb, le-ltb, ltb-false, leb-false, eqb-true, eqb-fal
 use lib.Dec.{eqb, leb, ltb}
 use lib.ListN.{length, get_or, drop, length-drop, get_or-eq_default}
 use lib.Seq.{get_or-drop}
+use Rattle.std.proofs.Common.{Option, Some, None}
 use Rattle.laws.specs.Sets.{any}
 use Rattle.laws.proofs.Booleans.{neither}
 use Rattle.laws.proofs.Sets.{none_above}
@@ -22,13 +23,10 @@ use Rattle.tcc.specs.declared.Agent.{Agent}
 use Rattle.tcc.specs.declared.Agent.TheVariants.{Skip}
 use Rattle.words.specs.Word.{field, words, word_at}
 use Rattle.format.specs.declared.Sizes.{Sizes}
-use Rattle.format.specs.declared.Decoded.{Decoded}
-use Rattle.format.specs.declared.Decoded.TheVariants.{Whole, Malformed}
 use Rattle.format.specs.Format.{is_word, agent_in, decode_agent, is_rule, rule_of}
 use Rattle.format.specs.Decode.{sizes, decode}
 use Rattle.format.proofs.Decode.{decode_agent_lem, decode_root, decode_agents}
-use Rattle.check_verdicts.specs.declared.Verdict.{Verdict}
-use Rattle.check_verdicts.specs.declared.Verdict.TheVariants.{Accepted, Length, Count, Form, Token, Reference}
+use Rattle.check_verdicts.specs.Verdict.{Verdict, Accepted, Length, Count, Form, Token, Reference}
 use Rattle.check_verdicts.specs.Verdicts.{verdict_number}
 use Rattle.check_verdicts.proofs.Verdicts.{refused, both_accepted}
 use Rattle.check_words.specs.WordFaults.{at_word, ports_verdict, root_verdict, rule_verdict, agent_verdict}
@@ -74,9 +72,9 @@ record Lower (h : Sizes) (i : ℕ) (a : Agent) : Type 0 where
   parts : (b : ℕ) → Memᴰ b (parts_of a) → b < i
   procedures : (p : ℕ) → Memᴰ p (procedures_of a) → p < h.procedures
 
-lower : (h : Sizes) (i : ℕ) (d : Decoded) → agent_verdict h i d ≡ Accepted → Lower h i (agent_in d)
-lower h i Malformed e = refused (Form (2 + i)) (λ z. omega arith) e
-lower h i (Whole a) e =
+lower : (h : Sizes) (i : ℕ) (d : Option Agent) → agent_verdict h i d ≡ Accepted → Lower h i (agent_in d)
+lower h i None e = refused (Form (2 + i)) (λ z. omega arith) e
+lower h i (Some a) e =
     let f = fine h (2 + i) true (tokens_of a) (any (λ b. leb i b) (parts_of a) || any (λ p. leb h.procedures p) (procedures_of a)) e in
     let n = neither (any (λ b. leb i b) (parts_of a)) (any (λ p. leb h.procedures p) (procedures_of a)) f.not_astray in
     record { tokens = f.known; parts = none_above i (parts_of a) n.0; procedures = none_above h.procedures (procedures_of a) n.1 }

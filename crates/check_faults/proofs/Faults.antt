@@ -8,7 +8,7 @@ use native.Mathlib.Numerals.{add-one}
 use lib.ListN.{length, get_or, drop, drop_of_length-le}
 use lib.Seq.{drop-cons}
 use Rattle.format.specs.declared.Sizes.{Sizes}
-use Rattle.check_verdicts.specs.declared.Verdict.TheVariants.{Accepted}
+use Rattle.check_verdicts.specs.Verdict.{Accepted}
 use Rattle.check_verdicts.specs.Verdicts.{or_else}
 use Rattle.check_faults.specs.Faults.{word_verdict, first_fault}
 

@@ -3,7 +3,7 @@
 use Rattle.std.specs.Prelude.{◌≡◌, List, ℕ, ◌+◌, ◌≤◌, length, drop}
 use Rattle.words.specs.Word.{words}
 use Rattle.format.specs.Decode.{sizes}
-use Rattle.check_verdicts.specs.declared.Verdict.TheVariants.{Accepted}
+use Rattle.check_verdicts.specs.Verdict.{Accepted}
 use Rattle.check_faults.specs.Faults.{first_fault}
 
 pub record Faultless (s : List ℕ) : Type 0 where

@@ -7,8 +7,7 @@ use Rattle.tcc.specs.Limits.{most_rules}
 use Rattle.format.specs.Limits.{most_bytes}
 use Rattle.format.specs.declared.Sizes.{Sizes}
 use Rattle.format.specs.Format.{is_word, decode_agent}
-use Rattle.check_verdicts.specs.declared.Verdict.{Verdict}
-use Rattle.check_verdicts.specs.declared.Verdict.TheVariants.{Accepted, Length, Head, Count}
+use Rattle.check_verdicts.specs.Verdict.{Verdict, Accepted, Length, Head, Count}
 use Rattle.check_verdicts.specs.Verdicts.{or_else}
 use Rattle.check_words.specs.WordFaults.{ports_verdict, root_verdict, rule_verdict, agent_verdict}
 

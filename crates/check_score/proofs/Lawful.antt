@@ -17,7 +17,7 @@ use Rattle.words.specs.Word.{field, words, word_at}
 use Rattle.words.proofs.Words.{words_length}
 use Rattle.format.specs.Decode.{sizes, decode}
 use Rattle.format.proofs.Decode.{decode_agents, decode_roots, decode_tokens, decode_lowest, decode_highest, decode_rules, on_rules, sizes_few}
-use Rattle.check_verdicts.specs.declared.Verdict.TheVariants.{Accepted}
+use Rattle.check_verdicts.specs.Verdict.{Accepted}
 use Rattle.check_verdicts.specs.Verdicts.{verdict_number, or_else}
 use Rattle.check_verdicts.proofs.Verdicts.{both_accepted}
 use Rattle.check_faults.specs.Faults.{length_verdict, head_verdict, count_verdict, first_fault}

@@ -1,3 +1,4 @@
 pub mod Values
 pub mod Lawful
 pub mod Stages
+pub mod Passed

@@ -8,19 +8,18 @@ use native.Mathlib.Decide.{ℕ_discrete}
 use native.Mathlib.Omega.{arith}
 use lib.Dec.{eqb, leb, ltb}
 use lib.ListN.{length, drop, length-map, length-take, length-drop}
+use Rattle.std.proofs.Common.{Option, Some, None, Err}
 use Rattle.laws.specs.Sets.{any}
 use Rattle.tcc.specs.Score.{Score, tokens_of, parts_of, procedures_of}
 use Rattle.tcc.specs.Unguarded.{circular}
+use Rattle.tcc.specs.declared.Agent.{Agent}
 use Rattle.words.specs.Word.{field, words, word_at}
 use Rattle.words.proofs.Words.{words_length}
 use Rattle.format.specs.declared.Sizes.{Sizes}
-use Rattle.format.specs.declared.Decoded.{Decoded}
-use Rattle.format.specs.declared.Decoded.TheVariants.{Whole, Malformed}
 use Rattle.format.specs.Format.{is_word, decode_agent, is_rule, rule_of}
 use Rattle.format.specs.Decode.{sizes, decode}
 use Rattle.format.proofs.Decode.{sizes_few}
-use Rattle.check_verdicts.specs.declared.Verdict.{Verdict}
-use Rattle.check_verdicts.specs.declared.Verdict.TheVariants.{Accepted, Length, Head, Count, Form, Token, Reference, Circle}
+use Rattle.check_verdicts.specs.Verdict.{Verdict, Accepted}
 use Rattle.check_verdicts.specs.Verdicts.{verdict_number, verdict_value, or_else}
 use Rattle.check_verdicts.proofs.Verdicts.{or_else_accepted, or_else_refused}
 use Rattle.check_words.specs.WordFaults.{at_word, agent_verdict}
@@ -41,13 +40,7 @@ or_else_small {v} {w} {n} hv hw = go v hv
   where
     go : (v : Verdict) → Small n v → Small n (or_else v w)
     go Accepted h = hw
-    go Length h = h
-    go Head h = h
-    go Count h = h
-    go (Form k) h = h
-    go (Token k) h = h
-    go (Reference k) h = h
-    go (Circle p) h = h
+    go (Err f) h = h
 
 at_small : (h : Sizes) (k : ℕ) (formed : Bool) (tokens : List ℕ) (astray : Bool) (n : ℕ) → k ≤ n → Small n (at_word h k formed tokens astray)
 at_small h k formed tokens astray n le =
@@ -55,9 +48,9 @@ at_small h k formed tokens astray n le =
     (either_small (any (λ t. leb h.tokens t) tokens) (record { small = le }) (either_small astray (record { small = le }) (record { small = omega arith })))
     (record { small = le })
 
-agent_small : (h : Sizes) (i : ℕ) (d : Decoded) (n : ℕ) → 2 + i ≤ n → Small n (agent_verdict h i d)
-agent_small h i Malformed n le = record { small = le }
-agent_small h i (Whole a) n le = at_small h (2 + i) true (tokens_of a) (any (λ b. leb i b) (parts_of a) || any (λ p. leb h.procedures p) (procedures_of a)) n le
+agent_small : (h : Sizes) (i : ℕ) (d : Option Agent) (n : ℕ) → 2 + i ≤ n → Small n (agent_verdict h i d)
+agent_small h i None n le = record { small = le }
+agent_small h i (Some a) n le = at_small h (2 + i) true (tokens_of a) (any (λ b. leb i b) (parts_of a) || any (λ p. leb h.procedures p) (procedures_of a)) n le
 
 word_small : (h : Sizes) (k w n : ℕ) → k ≤ n → 2 ≤ n → Small n (word_verdict h k w)
 unfolding word_verdict

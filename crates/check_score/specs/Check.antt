@@ -3,7 +3,7 @@
 use Rattle.std.specs.Prelude.{List, ℕ, length, drop}
 use Rattle.words.specs.Word.{words, word_at}
 use Rattle.format.specs.Decode.{sizes, decode}
-use Rattle.check_verdicts.specs.declared.Verdict.{Verdict}
+use Rattle.check_verdicts.specs.Verdict.{Verdict}
 use Rattle.check_verdicts.specs.Verdicts.{or_else}
 use Rattle.check_faults.specs.Faults.{length_verdict, head_verdict, count_verdict, first_fault}
 use Rattle.check_circles.specs.Circles.{circle_from}

@@ -7,26 +7,15 @@ ghost use Rattle.check_score.specs.Check.{verdict};
 use check_verdicts::Verdict;
 
 // Checks a score.
+#[tactic(auto, using(crate::proofs::Passed::passed_tests), unfolding(crate::specs::Check::verdict))]
 pub fn check(s: &[u8]) -> Verdict
     ensures { result ≡ verdict s.now }
 {
-    let length = check_faults::length_verdict(s.len());
-    if check_verdicts::number_of(length) != 0 {
-        return length;
-    }
+    check_faults::length_verdict(s.len())?;
     let head = words::word_at(s, 0);
-    let kind = check_faults::head_verdict(head);
-    if check_verdicts::number_of(kind) != 0 {
-        return kind;
-    }
+    check_faults::head_verdict(head)?;
     let sizes = format::sizes_of(head);
-    let count = check_faults::count_verdict(sizes, words::word_count(s));
-    if check_verdicts::number_of(count) != 0 {
-        return count;
-    }
-    let fault = check_faults::first_fault(s, sizes);
-    if check_verdicts::number_of(fault) != 0 {
-        return fault;
-    }
+    check_faults::count_verdict(sizes, words::word_count(s))?;
+    check_faults::first_fault(s, sizes)?;
     check_circles::lowest_circle(s, sizes)
 }

@@ -1,6 +1,7 @@
 -- Laws of verdicts.
 --     or_else_accepted  where the first verdict is to accept, the second stands
 --     or_else_refused   a verdict that refuses stands
+--     fault_numbered    the number of a fault is not 0
 --     refused           a verdict whose number is not 0 does not accept
 --     both_accepted     of two verdicts tried in turn, each accepts
 --     accepted_only     the verdict with number 0 is to accept
@@ -11,52 +12,38 @@ use mathlib.Core.Bool.{cond}
 use Prim.Native.Nat.{ℕ, ◌≤◌}
 use native.Mathlib.Omega.{arith}
 use lib.Dec.{eqb}
-use Rattle.check_verdicts.specs.declared.Verdict.{Verdict}
-use Rattle.check_verdicts.specs.declared.Verdict.TheVariants.{Accepted, Length, Head, Count, Form, Token, Reference, Circle}
+use Rattle.std.proofs.Common.{Err}
+use Rattle.check_verdicts.specs.declared.Fault.{Fault}
+use Rattle.check_verdicts.specs.Verdict.{Verdict, Accepted, Length, Head, Count, Form, Token, Reference, Circle}
 use Rattle.check_verdicts.specs.Verdicts.{verdict_number, verdict_value, or_else}
+
+fault_numbered : (f : Fault) → verdict_number (Err f) ≡ 0 → ⊥
+fault_numbered Fault.Length e = omega arith
+fault_numbered Fault.Head e = omega arith
+fault_numbered Fault.Count e = omega arith
+fault_numbered (Fault.Form k) e = omega arith
+fault_numbered (Fault.Token k) e = omega arith
+fault_numbered (Fault.Reference k) e = omega arith
+fault_numbered (Fault.Circle p) e = omega arith
 
 pub or_else_accepted : (v w : Verdict) → verdict_number v ≡ 0 → or_else v w ≡ w
 or_else_accepted Accepted w e = refl
-or_else_accepted Length w e = absurd (omega arith)
-or_else_accepted Head w e = absurd (omega arith)
-or_else_accepted Count w e = absurd (omega arith)
-or_else_accepted (Form k) w e = absurd (omega arith)
-or_else_accepted (Token k) w e = absurd (omega arith)
-or_else_accepted (Reference k) w e = absurd (omega arith)
-or_else_accepted (Circle p) w e = absurd (omega arith)
+or_else_accepted (Err f) w e = absurd (fault_numbered f e)
 
 pub or_else_refused : (v w : Verdict) → (verdict_number v ≡ 0 → ⊥) → or_else v w ≡ v
 or_else_refused Accepted w n = absurd (n refl)
-or_else_refused Length w n = refl
-or_else_refused Head w n = refl
-or_else_refused Count w n = refl
-or_else_refused (Form k) w n = refl
-or_else_refused (Token k) w n = refl
-or_else_refused (Reference k) w n = refl
-or_else_refused (Circle p) w n = refl
+or_else_refused (Err f) w n = refl
 
 pub refused : {A : Type 0} (v : Verdict) → (verdict_number v ≡ 0 → ⊥) → v ≡ Accepted → A
 refused v n e = absurd (n (ap verdict_number e))
 
 pub both_accepted : (v w : Verdict) → or_else v w ≡ Accepted → (v ≡ Accepted) × (w ≡ Accepted)
 both_accepted Accepted w e = (refl, e)
-both_accepted Length w e = refused Length (λ z. omega arith) e
-both_accepted Head w e = refused Head (λ z. omega arith) e
-both_accepted Count w e = refused Count (λ z. omega arith) e
-both_accepted (Form k) w e = refused (Form k) (λ z. omega arith) e
-both_accepted (Token k) w e = refused (Token k) (λ z. omega arith) e
-both_accepted (Reference k) w e = refused (Reference k) (λ z. omega arith) e
-both_accepted (Circle p) w e = refused (Circle p) (λ z. omega arith) e
+both_accepted (Err f) w e = absurd (cc)
 
 pub accepted_only : (v : Verdict) → verdict_number v ≡ 0 → v ≡ Accepted
 accepted_only Accepted e = refl
-accepted_only Length e = absurd (omega arith)
-accepted_only Head e = absurd (omega arith)
-accepted_only Count e = absurd (omega arith)
-accepted_only (Form k) e = absurd (omega arith)
-accepted_only (Token k) e = absurd (omega arith)
-accepted_only (Reference k) e = absurd (omega arith)
-accepted_only (Circle p) e = absurd (omega arith)
+accepted_only (Err f) e = absurd (fault_numbered f e)
 
 pub number_few : (v : Verdict) → verdict_number v ≤ 7
 number_few Accepted = omega arith

@@ -2,9 +2,10 @@
 --     verdict_number, verdict_value   the table's number for a verdict, and the word or procedure returned with it; 0 where there
 --                                     is none
 --     or_else                          the first verdict, or the second where the first finds nothing wrong
-use Rattle.std.specs.Prelude.{ℕ}
-use Rattle.check_verdicts.specs.declared.Verdict.{Verdict}
-use Rattle.check_verdicts.specs.declared.Verdict.TheVariants.{Accepted, Length, Head, Count, Form, Token, Reference, Circle}
+--     by_verdict                       how a call whose exits are of any type leaves, or goes on
+use Rattle.std.specs.Prelude.{Err, ℕ}
+use Rattle.check_verdicts.specs.declared.Fault.{Fault}
+use Rattle.check_verdicts.specs.Verdict.{Verdict, Accepted, Length, Head, Count, Form, Token, Reference, Circle}
 
 abbrev pub verdict_number : Verdict → ℕ
 verdict_number Accepted = 0
@@ -28,10 +29,9 @@ verdict_value (Circle p) = p
 
 abbrev pub or_else : Verdict → Verdict → Verdict
 or_else Accepted v = v
-or_else Length v = Length
-or_else Head v = Head
-or_else Count v = Count
-or_else (Form k) v = Form k
-or_else (Token k) v = Token k
-or_else (Reference k) v = Reference k
-or_else (Circle p) v = Circle p
+or_else (Err f) v = Err f
+
+-- a call that a verdict turns down, or goes on
+abbrev pub by_verdict : {E : Type 0} → Verdict → (Fault → E) → E → E
+by_verdict Accepted down on = on
+by_verdict (Err f) down on = down f

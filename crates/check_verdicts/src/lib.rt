@@ -4,10 +4,9 @@
 ghost use Rattle.std.specs.Prelude.{◌≡◌};
 ghost use Rattle.check_verdicts.specs.Verdicts.{verdict_number, verdict_value};
 
-// What the score check finds.
+// What is wrong with a score.
 #[derive(Clone, Copy)]
-pub enum Verdict {
-    Accepted,
+pub enum Fault {
     // The bytes are none, no multiple of 4, or too many.
     Length,
     // Word 0 is no head.
@@ -24,19 +23,22 @@ pub enum Verdict {
     Circle(usize),
 }
 
+// What the score check finds: nothing, or the first fault.
+pub type Verdict = Result<(), Fault>;
+
 // The table's number for a verdict.
 pub fn number_of(v: Verdict) -> usize
     ensures { result ≡ verdict_number v }
 {
     match v {
-        Verdict::Accepted => 0,
-        Verdict::Length => 1,
-        Verdict::Head => 2,
-        Verdict::Count => 3,
-        Verdict::Form(_) => 4,
-        Verdict::Token(_) => 5,
-        Verdict::Reference(_) => 6,
-        Verdict::Circle(_) => 7,
+        Ok(()) => 0,
+        Err(Fault::Length) => 1,
+        Err(Fault::Head) => 2,
+        Err(Fault::Count) => 3,
+        Err(Fault::Form(_)) => 4,
+        Err(Fault::Token(_)) => 5,
+        Err(Fault::Reference(_)) => 6,
+        Err(Fault::Circle(_)) => 7,
     }
 }
 
@@ -45,13 +47,12 @@ pub fn value_of(v: Verdict) -> usize
     ensures { result ≡ verdict_value v }
 {
     match v {
-        Verdict::Accepted => 0,
-        Verdict::Length => 0,
-        Verdict::Head => 0,
-        Verdict::Count => 0,
-        Verdict::Form(word) => word,
-        Verdict::Token(word) => word,
-        Verdict::Reference(word) => word,
-        Verdict::Circle(procedure) => procedure,
+        Ok(()) | Err(Fault::Length | Fault::Head | Fault::Count) => 0,
+        Err(
+            Fault::Form(place)
+            | Fault::Token(place)
+            | Fault::Reference(place)
+            | Fault::Circle(place),
+        ) => place,
     }
 }

@@ -5,7 +5,7 @@ use mathlib.Core.Bool.{Bool, false}
 use mathlib.Core.List.{List}
 use Prim.Native.Nat.{ℕ}
 use Rattle.format.specs.declared.Sizes.{Sizes}
-use Rattle.check_verdicts.specs.declared.Verdict.TheVariants.{Form}
+use Rattle.check_verdicts.specs.Verdict.{Form}
 use Rattle.check_words.specs.WordFaults.{at_word}
 
 pub form_first : (h : Sizes) (k : ℕ) {formed : Bool} (tokens : List ℕ) (astray : Bool) → formed ≡ false → Form k ≡ at_word h k formed tokens astray

@@ -18,8 +18,9 @@ use Rattle.words.specs.Word.{words, word_at, field}
 use Rattle.words.specs.Map.{in_map}
 use Rattle.format.specs.Format.{is_word, decode_agent, is_rule}
 use Rattle.format.specs.Decode.{sizes, decode}
-use Rattle.check_verdicts.specs.declared.Verdict.TheVariants.{Length}
+use Rattle.check_verdicts.specs.Verdict.{Length}
 use Rattle.check_verdicts.specs.Verdicts.{verdict_number}
+use Rattle.check_verdicts.proofs.Verdicts.{accepted_only}
 use Rattle.check_faults.specs.Faults.{word_verdict, first_fault, length_verdict}
 use Rattle.check_circles.specs.Circles.{circle_from}
 use Rattle.check_score.specs.Check.{verdict}
@@ -30,15 +31,12 @@ use Rattle.lent.proofs.Faults.{fault_running}
 use Rattle.lent.proofs.Round.{lawful_bytes}
 use Rattle.lent.proofs.Numbered.{numbered_fault}
 use Rattle.lent_maps.specs.Maps.{tokens_in}
-use Rattle.instant_call.specs.declared.Reply.TheVariants.{State, Input}
+use Rattle.refusals.specs.Refused.{State, Input}
 use Rattle.instant_call.specs.InstantCall.{Lent, lent, length_fault, token_fault, kept, exit}
-use Rattle.journal_form.specs.declared.Form.TheVariants.{Good}
-use Rattle.journal_form.specs.Form.{may_follow, first_against, form_of}
+use Rattle.journal_form.specs.Form.{Good, may_follow, first_against, form_of}
 use Rattle.journal_instants.specs.Instants.{up_to, instants_in, tokens_of, input_lists}
 use Rattle.journal_words.specs.History.{instant_words}
-use Rattle.journal_run_list.specs.declared.Stop.{Stop}
-use Rattle.journal_run_list.specs.declared.Stop.TheVariants.{Not, Room}
-use Rattle.journal_run_list.specs.Run.{Ran}
+use Rattle.journal_run_list.specs.Run.{MayStop, Not, Room, Ran}
 use Rattle.journal_run.specs.RunCall as run
 use Rattle.claims_cases.specs.Cases.{bytes, turned_down, Holds, sample, state_with, input_with, listed, printed, Marked}
 use Rattle.claims_cases.proofs.Runs.{play_on, exit_plays}
@@ -54,11 +52,11 @@ lengths_right state input store output scratch a b c d e = rw (a, b, c, d, e)
 module _ (score input : List ℕ) (l : Lent) (accepted : verdict_number (verdict score) ≡ 0) (right : length_fault input l ≡ false) where
   bad_state : state_fault (sizes score).agents l.state ≡ true → exit score input l ≡ kept l State
   unfolding exit
-  bad_state e = rw (accepted, right, e)
+  bad_state e = rw (accepted_only (verdict score) accepted, right, e)
 
   bad_input : state_fault (sizes score).agents l.state ≡ false → token_fault score input ≡ true → exit score input l ≡ kept l Input
   unfolding exit
-  bad_input e t = rw (accepted, right, e, t)
+  bad_input e t = rw (accepted_only (verdict score) accepted, right, e, t)
 
 -- agent 5 is awake, of five agents
 agent_5 : state_fault 5 (bytes (state_with 0x20 0)) ≡ true
@@ -114,7 +112,7 @@ sample_runs n r e journal scratch h i =
     exit_plays (bytes sample) sample_accepted (bytes listed) journal scratch (running (4 ∷ [])) start_lawful i listed_good (omega arith) ∙ rw (h, e) refl
 
 -- what a run does that leaves agent 2 awake
-abbrev ran : List ℕ → ℕ → Stop → Ran
+abbrev ran : List ℕ → ℕ → MayStop → Ran
 ran written n stop = record { words = written; state = bytes (state_with 0x4 n); instants = n; stop = stop }
 
 pub marked : Marked

@@ -18,25 +18,24 @@ use Rattle.tcc.specs.Instant.{State, answer, after}
 use Rattle.format.specs.Decode.{sizes, decode}
 use Rattle.format.proofs.Decode.{decode_tokens, sizes_few, playable_agents}
 use Rattle.check_verdicts.specs.Verdicts.{verdict_number}
+use Rattle.check_verdicts.proofs.Verdicts.{accepted_only}
 use Rattle.check_score.specs.Check.{verdict}
 use Rattle.check_score.proofs.Stages.{playable}
 use Rattle.lent.specs.Lengths.{scratch_bytes}
 use Rattle.lent.specs.States.{numbered, last_number, LawfulState}
 use Rattle.lent.proofs.Round.{lawful_bytes}
 use Rattle.lent.proofs.Numbered.{numbered_length, numbered_same, numbered_fault, number_round}
-use Rattle.journal_form.specs.declared.Form.TheVariants.{Good}
-use Rattle.journal_form.specs.Form.{form_of}
+use Rattle.journal_form.specs.Form.{Good, form_of}
 use Rattle.journal_instants.specs.Instants.{input_lists}
 use Rattle.journal_words.specs.History.{entry, RisingBelow}
 use Rattle.journal_words.proofs.Forms.{good_inputs}
 use Rattle.journal_step.specs.AnswerIn.{answer_in}
 use Rattle.journal_step.proofs.Stands.{written_stands, instant_entry, after_state, next_lawful, instant_lawful}
-use Rattle.journal_run_list.specs.declared.Stop.TheVariants.{Not, Room}
-use Rattle.journal_run_list.specs.Run.{stop_at, Ran, stopped, unless_stopped, run_from}
+use Rattle.journal_run_list.specs.Run.{Not, Room, stop_at, Ran, stopped, unless_stopped, run_from}
 use Rattle.journal_run.specs.RunCall.{lent, ended, exit}
 
 unfoldable pub play_on : Score → State → ℕ → ℕ → List (List ℕ) → Ran
-play_on sc st n room [] = stopped (numbered st n) Not
+play_on sc st n _ [] = stopped (numbered st n) Not
 play_on sc st n room (inputs ∷ more) =
     unless_stopped (cond (leb (4 * length (entry sc inputs (answer sc st inputs))) room) Not Room) (numbered st n)
     (entry sc inputs (answer sc st inputs))
@@ -73,7 +72,7 @@ module _ (score : List ℕ) (accepted : verdict_number (verdict score) ≡ 0) wh
   exit_plays inputs journal scratch st lawful long good few =
       let rising : Within (RisingBelow (decode score).tokens) (input_lists inputs) = λ l m. subst (λ t. RisingBelow t l) (sym (decode_tokens score)) (good_inputs false (sizes score).tokens inputs good l m) in
       rw (
-        accepted,
+        accepted_only (verdict score) accepted,
         numbered_length st 0,
         long,
         numbered_fault st 0 (sizes score).agents ∙ lawful_bytes (sizes score).agents (sizes_few score).1 st lawful,

@@ -14,16 +14,16 @@ use Rattle.tcc.specs.Score.{Score}
 use Rattle.tcc.specs.Weight.{weight}
 use Rattle.tcc.specs.Instant.{Answer, count, running, answers}
 use Rattle.format.specs.Decode.{decode}
-use Rattle.check_verdicts.specs.declared.Verdict.{Verdict}
-use Rattle.check_verdicts.specs.declared.Verdict.TheVariants.{Accepted, Length, Token, Reference, Circle}
+use Rattle.check_verdicts.specs.Verdict.{Verdict, Accepted, Length, Token, Reference, Circle}
 use Rattle.check_score.specs.Check.{verdict}
 use Rattle.lent.specs.States.{start_bytes}
 use Rattle.lent.specs.Lengths.{map_bytes, scratch_bytes, no_scratch}
-use Rattle.instant_call.specs.declared.Reply.{Reply}
-use Rattle.instant_call.specs.declared.Reply.TheVariants.{State, Input}
+use Rattle.instant_call.specs.Reply.{Reply}
+use Rattle.refusals.specs.Refused.{State, Input}
 use Rattle.instant_call.specs.InstantCall.{Exit, lent, exit}
-use Rattle.journal_step.specs.declared.Reply.{Reply as RunReply}
-use Rattle.journal_step.specs.declared.Reply.TheVariants as run-reply
+use Rattle.journal_step.specs.Reply.{Reply as RunReply}
+use Rattle.journal_step.specs.Reply.{Accepted as Played}
+use Rattle.refusals.specs.Refused.{Full}
 use Rattle.journal_run.specs.RunCall as run
 
 abbrev pub bytes : List ℕ → List ℕ
@@ -114,9 +114,9 @@ marked =
     ∷ instants aborting (4 ∷ []) ((1 ∷ []) ∷ [] ∷ [])
     (record { status = 2; count = 0; awake = [] } ∷ record { status = 2; count = 0; awake = [] } ∷ [])
     ∷ instants aborting (4 ∷ []) ((0 ∷ []) ∷ []) (record { status = 2; count = 0; awake = [] } ∷ [])
-    ∷ runs sample listed 16 (take 4 printed) (state_with 0x4 2) (run-reply.Full 2)
-    ∷ runs sample listed 12 (take 3 printed) (state_with 0x4 1) (run-reply.Full 1)
-    ∷ runs sample listed 36 printed (state_with 0x4 3) (run-reply.Accepted 3)
+    ∷ runs sample listed 16 (take 4 printed) (state_with 0x4 2) (Full 2)
+    ∷ runs sample listed 12 (take 3 printed) (state_with 0x4 1) (Full 1)
+    ∷ runs sample listed 36 printed (state_with 0x4 3) (Played 3)
     ∷ instants unless_pair (1 ∷ []) ([] ∷ []) (record { status = 0; count = 0; awake = 0 ∷ [] } ∷ [])
     ∷ instants unless_pair (1 ∷ []) ((1 ∷ []) ∷ []) (record { status = 0; count = 1; awake = [] } ∷ [])
     ∷ weights parallel_pair (1 ∷ 3 ∷ [])

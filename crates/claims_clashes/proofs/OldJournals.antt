@@ -29,14 +29,13 @@ use Rattle.bits.specs.Bits.{bytes_of}
 use Rattle.lent.specs.Lengths.{scratch_bytes, no_scratch}
 use Rattle.lent.specs.States.{instant_number, start_bytes, next_bytes, last_number}
 use Rattle.lent.proofs.Numbered.{number_round, next_number}
-use Rattle.journal_form.specs.declared.Form.TheVariants.{Good}
-use Rattle.journal_form.specs.Form.{form_of}
+use Rattle.journal_form.specs.Form.{Good, form_of}
 use Rattle.journal_instants.specs.Instants.{instants_in, inputs_in, tokens_of}
 use Rattle.journal_words.specs.History.{instant_words, entry, history, RisingBelow}
 use Rattle.journal_words.proofs.Rising.{output_rising}
 use Rattle.journal_words.proofs.Forms.{WellFormed}
 use Rattle.journal_words.proofs.Formed.{words_inputs, words_outputs, words_formed, formed_good, formed_instants}
-use Rattle.journal_step.specs.declared.Reply.TheVariants.{Differs}
+use Rattle.refusals.specs.Refused.{Differs}
 use Rattle.journal_step.specs.AnswerIn.{answer_in}
 use Rattle.journal_step.specs.ByForm.{by_form}
 use Rattle.journal_step.proofs.Stands.{Stands, instant_entry, instant_stands, instant_lawful}

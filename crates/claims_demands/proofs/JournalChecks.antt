@@ -16,20 +16,20 @@ use Rattle.words.specs.Word.{words}
 use Rattle.format.specs.Decode.{sizes, decode}
 use Rattle.format.proofs.Decode.{decode_tokens}
 use Rattle.check_verdicts.specs.Verdicts.{verdict_number}
+use Rattle.check_verdicts.proofs.Verdicts.{accepted_only}
 use Rattle.check_score.specs.Check as check
 use Rattle.bits.specs.Bits.{bytes_of}
 use Rattle.lent.specs.States.{state_fault, as_bytes, instant_number, start_bytes, next_bytes, last_number, at_last, LawfulState}
 use Rattle.lent.proofs.Numbered.{number_round}
 use Rattle.lent.specs.Lengths.{scratch_bytes, no_scratch}
-use Rattle.journal_form.specs.declared.Form.{Form}
-use Rattle.journal_form.specs.declared.Form.TheVariants.{Good, Bytes, Word}
-use Rattle.journal_form.specs.Form.{form_of}
+use Rattle.journal_form.specs.Form.{Form, Good, Bytes, Word, form_of}
 use Rattle.journal_instants.specs.Instants.{instants_in, inputs_in}
 use Rattle.journal_words.specs.History.{entry, RisingBelow, IsHistory}
 use Rattle.journal_words.proofs.Forms.{good_whole, good_instants, good_words, bytes_words}
 use Rattle.journal_words.proofs.Histories.{history_joined, history_good, history_instants}
-use Rattle.journal_step.specs.declared.Reply.{Reply}
-use Rattle.journal_step.specs.declared.Reply.TheVariants.{Unlawful, Differs, Accepted}
+use Rattle.journal_step.specs.Reply.{Reply}
+use Rattle.refusals.specs.Refused.{Next as Unlawful, Differs}
+use Rattle.journal_step.specs.Reply.{Accepted}
 use Rattle.journal_step.specs.AnswerIn.{answer_in}
 use Rattle.journal_step.specs.ByForm.{by_form}
 use Rattle.journal_step.proofs.Stands.{Stands, written_stands}
@@ -69,7 +69,7 @@ module _ (score : List ℕ) (accepted : verdict_number (check.verdict score) ≡
   module _ (journal scratch : List ℕ) (long : length scratch ≡ scratch_bytes) where
     pub check_reply : (exit score journal scratch).reply ≡ (by_form (form_of true (sizes score).tokens journal) (left scratch) (left no_scratch (checked score journal))).reply
     unfolding exit
-    check_reply = rw (accepted, long)
+    check_reply = rw (accepted_only (check.verdict score) accepted, long)
 
     pub history_accepted : (n : ℕ) → IsHistory (decode score) (start_state (decode score)) journal n → n ≤ last_number → (exit score journal scratch).reply ≡ Accepted n
     history_accepted n h few =

@@ -25,14 +25,12 @@ use Rattle.instant_call.proofs.Exits.{Lengths-are}
 use Rattle.journal_words.specs.History.{entry, RisingBelow}
 use Rattle.journal_words.proofs.Rising.{rising_map}
 use Rattle.journal_step.specs.AnswerIn.{answer_in}
-use Rattle.journal_run_list.specs.declared.Stop.{Stop}
-use Rattle.journal_run_list.specs.declared.Stop.TheVariants.{Not, Next, Last, Room}
-use Rattle.journal_run_list.specs.Run.{stop_at, Ran, unless_stopped, run_from}
+use Rattle.journal_run_list.specs.Run.{MayStop, Not, Next, Last, Room, stop_at, Ran, unless_stopped, run_from}
 use Rattle.journal_run_list.proofs.Took.{not_last}
 use Rattle.score_answer.specs.Answer.{number_in, packed}
 use Rattle.score_answer.specs.Replies.{of_reply}
 use Rattle.score.specs.ScoreInstant.{ScoreInstant}
-use Rattle.claims_demands.specs.Calls.{Answered, answered_by, written, Plays, none, then}
+use Rattle.claims_demands.specs.Calls.{Answered, answered_by, Plays, none, then}
 use Rattle.claims_demands.proofs.Accepted.{given, Known, known_input, next_faultless}
 use Rattle.claims_demands.proofs.Instants.{IsInstant, accepted_instant, settled_instant}
 use Rattle.claims_demands.proofs.Linked.{Linked}
@@ -60,7 +58,7 @@ module _ (score : List ℕ) where
 
     pub plays : (lists : List (List ℕ)) → Rises score lists → (s : List ℕ) → length s ≡ state_bytes → state_fault (sizes score).agents s ≡ false → (room : ℕ) → Some s (run_from score s room lists).instants lists
     unfolding run_from answer_in
-    plays [] rises s long faultless room = ([], s, none)
+    plays [] rises s long faultless _ = ([], s, none)
     plays (inputs ∷ more) rises s long faultless room =
         go (stop_at score (at_last s) a (4 * length words) room) (not_last score (at_last s) a (4 * length words) room)
         (run_from score (next_bytes s a) (room - 4 * length words) more)
@@ -105,7 +103,7 @@ module _ (score : List ℕ) where
           below = below;
         })
 
-        go : (stop : Stop) → (stop ≡ Not → at_last s ≡ false) → (r : Ran) → Some (next_bytes s a) r.instants more → Some s (unless_stopped stop s words r).instants (inputs ∷ more)
+        go : (stop : MayStop) → (stop ≡ Not → at_last s ≡ false) → (r : Ran) → Some (next_bytes s a) r.instants more → Some s (unless_stopped stop s words r).instants (inputs ∷ more)
         go Not below r rest =
             let n = answers (below refl) in
             let ends : next_bytes s a ≡ behind.state = sym (ap (λ q. q.after) (played_instant rising called n).is) in

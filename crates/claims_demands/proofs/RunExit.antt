@@ -9,36 +9,37 @@ use mathlib.Core.Bool.{Bool, true, false, cond, not, ◌||◌}
 use mathlib.Core.List.{List, [], ◌∷◌, Memᴰ}
 use Prim.Native.Nat.{ℕ, suc, ◌*◌, ◌-◌}
 use native.Mathlib.Omega.{arith}
-use borrow.Author.Tests.{eqb-true, eqb-false, not-true, not-false}
+use borrow.Author.Tests.{eqb-true, not-false}
 use lib.Dec.{eqb, leb}
 use lib.ListN.{length}
 use Rattle.laws.proofs.Booleans.{true_is_false, by_test}
 use Rattle.tcc.specs.Instant.{Answer, after}
 use Rattle.format.specs.Decode.{sizes, decode}
 use Rattle.format.proofs.Decode.{decode_tokens}
-use Rattle.check_verdicts.specs.declared.Verdict.{Verdict}
+use Rattle.std.proofs.Common.{Err}
+use Rattle.check_verdicts.specs.declared.Fault.{Fault}
 use Rattle.check_verdicts.specs.Verdicts.{verdict_number, verdict_value}
 use Rattle.check_verdicts.proofs.Verdicts.{number_few}
 use Rattle.check_score.specs.Check as check
+use Rattle.refusals.specs.declared.Refusal.{Refusal}
+use Rattle.refusals.proofs.ByVerdict.{by_fault}
 use Rattle.lent.specs.Lengths.{state_bytes, scratch_bytes}
 use Rattle.lent.specs.States.{state_fault, as_bytes, instant_number, next_bytes, at_last}
 use Rattle.lent.proofs.Numbered.{numbered_fault}
-use Rattle.journal_form.specs.declared.Form.{Form}
-use Rattle.journal_form.specs.declared.Form.TheVariants.{Good, Bytes, Word}
-use Rattle.journal_form.specs.Form.{form_of}
+use Rattle.journal_form.specs.Form.{Form, Good, Bytes, Word, form_of}
 use Rattle.journal_instants.specs.Instants.{input_lists}
 use Rattle.journal_words.specs.History.{entry, RisingBelow}
 use Rattle.journal_words.proofs.Forms.{good_inputs}
-use Rattle.journal_step.specs.declared.Reply.{Reply}
-use Rattle.journal_step.specs.declared.Reply.TheVariants.{Score as Turned, Lengths, State, Bytes as NoWords, Word as Against}
+use Rattle.journal_step.specs.Reply.{Reply}
+use Rattle.refusals.specs.Refused.{Turned, Lengths, State, Bytes as NoWords, Word as Against}
 use Rattle.journal_step.specs.AnswerIn.{answer_in}
 use Rattle.journal_step.specs.ByForm.{by_form}
-use Rattle.journal_run_list.specs.declared.Stop.TheVariants.{Not, Next, Last, Room}
-use Rattle.journal_run_list.specs.Run.{stop_at, Ran, unless_stopped, run_from}
+use Rattle.journal_run_list.specs.Run.{Not, Next, Last, Room, stop_at, Ran, unless_stopped, run_from}
 use Rattle.journal_run.specs.RunCall.{Lent, Exit, length_fault, kept, ended, exit}
 use Rattle.score_answer.specs.Answer.{number_of}
 use Rattle.score_answer.specs.Replies.{of_run_reply}
 use Rattle.score_answer.proofs.Replies.{reply_number}
+use Rattle.score_answer.proofs.Refusals.{refusal_numbered}
 use Rattle.claims_demands.proofs.Accepted.{given, next_faultless}
 
 abbrev pub Rises : List ℕ → List (List ℕ) → Type 0
@@ -85,10 +86,11 @@ first_false true b e = absurd (true_is_false refl e)
 first_false false b e = refl
 
 module _ (score inputs : List ℕ) (l : Lent) where
-  turned_down : (v : Verdict) → (verdict_number v ≡ 0 → ⊥) → Outcome score inputs l (kept l (Turned v))
-  turned_down v n =
-      let m = reply_number (verdict_number v) (verdict_value v) in
-      refuses (Turned v) (λ e. n (sym m ∙ e)) (λ e. omega (arith, number_few v, m)) (λ e. omega (arith, number_few v, m)) (λ e. omega (arith, number_few v, m))
+  turned_down : (f : Fault) → Outcome score inputs l (kept l (Turned f))
+  turned_down f =
+      let few = number_few (Err f) in
+      let m = reply_number (verdict_number (Err f)) (verdict_value (Err f)) in
+      refuses (Turned f) (refusal_numbered (Refusal.Score f)) (λ e. omega (arith, few, m)) (λ e. omega (arith, few, m)) (λ e. omega (arith, few, m))
 
   formed : (f : Form) → form_of false (sizes score).tokens inputs ≡ f → (f ≡ Good → Outcome score inputs l (ended l (ran_on score inputs l))) → Outcome score inputs l (by_form f (kept l) (ended l (ran_on score inputs l)))
   formed Good e good = good refl
@@ -98,10 +100,8 @@ module _ (score inputs : List ℕ) (l : Lent) where
   pub outcome : Outcome score inputs l (exit score inputs l)
   unfolding exit
   outcome =
-      let n = verdict_number (check.verdict score) in
-      by_test (Outcome score inputs l) (not (eqb n 0)) (λ e. turned_down (check.verdict score) (eqb-false n 0 (not-true (eqb n 0) e)))
-      (λ ok. let accepted = eqb-true n 0 (not-false (eqb n 0) ok) in
-      by_test (Outcome score inputs l) (length_fault l) (λ e. refuses Lengths (λ z. omega arith) (λ z. omega arith) (λ z. omega arith) (λ z. omega arith))
+      by_fault (Outcome score inputs l) (check.verdict score) (λ f e. turned_down f)
+      (λ accepted. by_test (Outcome score inputs l) (length_fault l) (λ e. refuses Lengths (λ z. omega arith) (λ z. omega arith) (λ z. omega arith) (λ z. omega arith))
       (λ right. let long = eqb-true (length l.state) state_bytes (not-false (eqb (length l.state) state_bytes) (first_false (not (eqb (length l.state) state_bytes)) (not (eqb (length l.scratch) scratch_bytes)) right)) in
       by_test (Outcome score inputs l) (state_fault (sizes score).agents l.state) (λ e. refuses State (λ z. omega arith) (λ z. omega arith) (λ z. omega arith) (λ z. omega arith))
       (λ faultless. formed (form_of false (sizes score).tokens inputs) refl

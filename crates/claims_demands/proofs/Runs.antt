@@ -21,9 +21,7 @@ use Rattle.lent.specs.States.{next_bytes, at_last}
 use Rattle.journal_instants.specs.Instants.{input_lists}
 use Rattle.journal_words.specs.History.{entry}
 use Rattle.journal_step.specs.AnswerIn.{answer_in}
-use Rattle.journal_run_list.specs.declared.Stop.{Stop}
-use Rattle.journal_run_list.specs.declared.Stop.TheVariants.{Not, Next, Last, Room}
-use Rattle.journal_run_list.specs.Run.{stop_at, Ran, unless_stopped, run_from}
+use Rattle.journal_run_list.specs.Run.{MayStop, Not, Next, Last, Room, stop_at, Ran, unless_stopped, run_from}
 use Rattle.journal_run.specs.RunCall.{ending, ended}
 use Rattle.journal_run.specs.RunCall as run
 use Rattle.score_answer.specs.Answer.{number_of, value_of, number_in, value_in}
@@ -45,7 +43,7 @@ module _ (score : List ℕ) where
   pub run_shows : (lists : List (List ℕ)) → Rises score lists → (s : List ℕ) (room : ℕ) {played : List Answered} {last : List ℕ} →
       Plays score s (take (run_from score s room lists).instants lists) played last → Shown (run_from score s room lists) played last
   unfolding run_from answer_in
-  run_shows [] rises s room none = (refl, refl)
+  run_shows [] rises s _ none = (refl, refl)
   run_shows (inputs ∷ more) rises s room x =
       go (stop_at score (at_last s) a (4 * length words) room) (run_from score (next_bytes s a) (room - 4 * length words) more)
       (λ played last. run_shows more (λ l m. rises l (Memᴰ.tail m)) (next_bytes s a) (room - 4 * length words)) x
@@ -56,7 +54,7 @@ module _ (score : List ℕ) where
       words : List ℕ
       words = entry (decode score) inputs a
 
-      go : (stop : Stop) (r : Ran) {played : List Answered} {last : List ℕ} →
+      go : (stop : MayStop) (r : Ran) {played : List Answered} {last : List ℕ} →
           ((played : List Answered) (last : List ℕ) → Plays score (next_bytes s a) (take r.instants more) played last → Shown r played last) →
           Plays score s (take (unless_stopped stop s words r).instants (inputs ∷ more)) played last → Shown (unless_stopped stop s words r) played last
       go Not r rest (then {last = last} {played = played} {before = before} {after = behind} {answer = answer} at c n y) =
@@ -73,7 +71,7 @@ take_member zero l x m = elim m [ ]
 take_member (suc n) [] x m = elim m [ ]
 take_member (suc n) (y ∷ l) x m = on_cons {P = λ z. Memᴰ z (y ∷ l)} (Memᴰ.head refl) (λ z k. Memᴰ.tail (take_member n l z k)) x m
 
-all_written : (a n : ℕ) (stop : Stop) → (stop ≡ Next → ⊥) → number_in a ≡ number_of (of_run_reply (ending stop n)) → value_in a ≡ value_of (of_run_reply (ending stop n)) → written a ≡ n
+all_written : (a n : ℕ) (stop : MayStop) → (stop ≡ Next → ⊥) → number_in a ≡ number_of (of_run_reply (ending stop n)) → value_in a ≡ value_of (of_run_reply (ending stop n)) → written a ≡ n
 all_written a n Not h e v = rw e v
 all_written a n Next h e v = absurd (h refl)
 all_written a n Last h e v = rw e v
@@ -82,7 +80,7 @@ all_written a n Room h e v = rw e v
 none_written : (a : ℕ) → (number_in a ≡ 0 → ⊥) → (number_in a ≡ 15 → ⊥) → (number_in a ≡ 18 → ⊥) → written a ≡ 0
 none_written a not-zero not_full not_last = rw (ne_eqb (number_in a) 0 not-zero, ne_eqb (number_in a) 15 not_full, ne_eqb (number_in a) 18 not_last)
 
-not_eleven : (n : ℕ) (stop : Stop) → (stop ≡ Next → ⊥) → number_of (of_run_reply (ending stop n)) ≡ 11 → ⊥
+not_eleven : (n : ℕ) (stop : MayStop) → (stop ≡ Next → ⊥) → number_of (of_run_reply (ending stop n)) ≡ 11 → ⊥
 not_eleven n Not h e = omega arith
 not_eleven n Next h e = h refl
 not_eleven n Last h e = omega arith

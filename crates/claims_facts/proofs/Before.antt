@@ -23,7 +23,7 @@ use Rattle.format.specs.Format.{is_word, decode_agent, is_fact, is_rule, rule_of
 use Rattle.format.specs.Decode.{sizes, decode}
 use Rattle.format.proofs.Rule.{word_kind, rule_plain, rule_kind, premises_plain}
 use Rattle.check_verdicts.specs.Verdicts.{verdict_number, or_else}
-use Rattle.check_verdicts.specs.declared.Verdict.TheVariants.{Circle}
+use Rattle.check_verdicts.specs.Verdict.{Circle}
 use Rattle.check_verdicts.proofs.Verdicts.{accepted_only}
 use Rattle.check_words.specs.WordFaults.{ports_verdict, agent_verdict, root_verdict, rule_verdict}
 use Rattle.check_words.proofs.AtWord.{form_first}

@@ -7,25 +7,24 @@ use mathlib.Core.Path.{◌≡◌, refl, ap, subst, ◌∙◌}
 use mathlib.Core.Bool.{true, false, cond, not, ◌&&◌}
 use mathlib.Core.List.{List, [], ◌∷◌}
 use Prim.Native.Nat.{ℕ, suc, ◌-◌, ◌*◌}
-use native.Mathlib.Decide.{ℕ_discrete}
-use borrow.Author.Tests.{eq-eqb, ne_eqb}
 use lib.Dec.{eqb}
 use lib.ListN.{length}
 use Rattle.tcc.specs.Instant.{answer, after}
 use Rattle.words.specs.Word.{words}
 use Rattle.format.specs.Decode.{sizes}
-use Rattle.check_verdicts.specs.declared.Verdict.{Verdict}
-use Rattle.check_verdicts.specs.Verdicts.{verdict_number}
+use Rattle.std.proofs.Common.{Err}
+use Rattle.check_verdicts.specs.declared.Fault.{Fault}
+use Rattle.check_verdicts.specs.Verdict.{Verdict, Accepted}
+use Rattle.check_verdicts.specs.Verdicts.{verdict_number, by_verdict}
 use Rattle.check_score.specs.Check.{verdict}
 use Rattle.lent.specs.Lengths.{scratch_bytes, no_scratch}
 use Rattle.lent.specs.States.{state_fault, state_of, as_bytes, start_bytes, next_bytes, at_last}
 use Rattle.lent_maps.specs.Maps.{tokens_in}
 use Rattle.instant_call.specs.InstantCall.{Lent, length_fault, token_fault, kept, cleared, answered, exit}
-use Rattle.instant_call.specs.declared.Reply.TheVariants.{Score as Turned, Lengths, State, Input, Last, Next}
+use Rattle.refusals.specs.Refused.{Turned, Lengths, State as NoState, Input, Differs, Last, Next}
 use Rattle.journal_form.specs.Form.{form_of}
 use Rattle.journal_instants.specs.Instants.{instants_in, inputs_in, input_lists}
 use Rattle.journal_words.specs.History.{entry}
-use Rattle.journal_step.specs.declared.Reply.TheVariants as reply
 use Rattle.journal_step.specs.AnswerIn.{answer_in}
 use Rattle.journal_step.specs.ByForm.{by_form}
 use Rattle.journal_run_list.specs.Run.{stop_at, unless_stopped, run_from}
@@ -38,25 +37,21 @@ use Rattle.claims_facts.specs.WithoutFacts.{decode_before, verdict_before, insta
 use Rattle.claims_facts.proofs.Before.{word_before, verdict_before_lem, score_before}
 
 module _ (score : List ℕ) (no-fact : NoFact score) where
-  turned_before : {E : Type 0} (down : Verdict → E) (on on' : E) → (verdict_number (verdict score) ≡ 0 → on ≡ on') →
-      cond (not (eqb (verdict_number (verdict score)) 0)) (down (verdict score)) on ≡ cond (not (eqb (verdict_number (verdict_before score)) 0)) (down (verdict_before score)) on'
-  turned_before {E} down on on' same-on = subst (λ v. by (verdict score) on ≡ by v on') (verdict_before_lem score no-fact) (go (ℕ_discrete (verdict_number (verdict score)) 0))
+  turned_before : {E : Type 0} (down : Fault → E) (on on' : E) → (verdict_number (verdict score) ≡ 0 → on ≡ on') → by_verdict (verdict score) down on ≡ by_verdict (verdict_before score) down on'
+  turned_before down on on' same-on = subst (λ v. by_verdict (verdict score) down on ≡ by_verdict v down on') (verdict_before_lem score no-fact) (go (verdict score) same-on)
     where
-      by : Verdict → E → E
-      by v x = cond (not (eqb (verdict_number v) 0)) (down v) x
-
-      go : Dec (verdict_number (verdict score) ≡ 0) → by (verdict score) on ≡ by (verdict score) on'
-      go (yes e) = rw (eq-eqb (verdict_number (verdict score)) 0 e) (same-on e)
-      go (no n) = rw (ne_eqb (verdict_number (verdict score)) 0 n)
+      go : (v : Verdict) → (verdict_number v ≡ 0 → on ≡ on') → by_verdict v down on ≡ by_verdict v down on'
+      go Accepted h = h refl
+      go (Err f) h = refl
 
   instant_before_lem : (input : List ℕ) (l : Lent) → exit score input l ≡ instant_before score input l
   unfolding exit
-  instant_before_lem input l = turned_before (λ v. kept l (Turned v)) _ _ (λ accepted.
+  instant_before_lem input l = turned_before (λ f. kept l (Turned f)) _ _ (λ accepted.
       ap (λ sc. let a = answer sc (state_of l.state) (tokens_in input) in
       cond (length_fault input l) (kept l Lengths)
-      (cond (state_fault (sizes score).agents l.state) (kept l State)
+      (cond (state_fault (sizes score).agents l.state) (kept l NoState)
       (cond (token_fault score input) (kept l Input)
-      (cond (at_last l.state) (kept l Last)
+      (cond (at_last l.state) (kept l (Last 0))
       (cond (state_fault (sizes score).agents (as_bytes (after a))) (cleared l Next) (answered sc l.state a))))))
       (score_before score no-fact accepted))
 
@@ -78,24 +73,24 @@ module _ (score : List ℕ) (no-fact : NoFact score) where
     check_from_before_lem (ws ∷ more) state read =
         let a = answer (decode_before score) (state_of state) (inputs_in ws) in
         ap (λ sc. let b = answer sc (state_of state) (inputs_in ws) in
-        cond (state_fault (sizes score).agents (as_bytes (after b))) reply.Unlawful
-        (cond (not (at_last state) && same ws (entry sc (inputs_in ws) b)) (check_from score (next_bytes state b) (suc read) more) (reply.Differs read)))
+        cond (state_fault (sizes score).agents (as_bytes (after b))) Next
+        (cond (not (at_last state) && same ws (entry sc (inputs_in ws) b)) (check_from score (next_bytes state b) (suc read) more) (Differs read)))
         (score_before score no-fact accepted)
-        ∙ ap (λ r. cond (state_fault (sizes score).agents (as_bytes (after a))) reply.Unlawful (cond (not (at_last state) && same ws (entry (decode_before score) (inputs_in ws) a)) r (reply.Differs read)))
+        ∙ ap (λ r. cond (state_fault (sizes score).agents (as_bytes (after a))) Next (cond (not (at_last state) && same ws (entry (decode_before score) (inputs_in ws) a)) r (Differs read)))
         (check_from_before_lem more (next_bytes state a) (suc read))
 
   run_before_lem : (inputs : List ℕ) (l : run.Lent) → run.exit score inputs l ≡ run_before score inputs l
   unfolding run.exit
-  run_before_lem inputs l = turned_before (λ v. run.kept l (reply.Score v)) _ _ (λ accepted.
-      ap (λ r. cond (run.length_fault l) (run.kept l reply.Lengths)
-      (cond (state_fault (sizes score).agents l.state) (run.kept l reply.State)
+  run_before_lem inputs l = turned_before (λ f. run.kept l (Turned f)) _ _ (λ accepted.
+      ap (λ r. cond (run.length_fault l) (run.kept l Lengths)
+      (cond (state_fault (sizes score).agents l.state) (run.kept l NoState)
       (by_form (form_of false (sizes score).tokens inputs) (run.kept l) (run.ended l r))))
       (run_from_before_lem accepted (input_lists inputs) l.state (length l.journal)))
 
   check_before_lem : (journal l : List ℕ) → journalcheck.exit score journal l ≡ check_before score journal l
   unfolding journalcheck.exit
-  check_before_lem journal l = turned_before (λ v. journalcheck.left l (reply.Score v)) _ _ (λ accepted.
-      ap (λ r. cond (not (eqb (length l) scratch_bytes)) (journalcheck.left l reply.Lengths)
+  check_before_lem journal l = turned_before (λ f. journalcheck.left l (Turned f)) _ _ (λ accepted.
+      ap (λ r. cond (not (eqb (length l) scratch_bytes)) (journalcheck.left l Lengths)
       (by_form (form_of true (sizes score).tokens journal) (journalcheck.left l) (journalcheck.left no_scratch r)))
       (ap (λ sc. check_from score (start_bytes sc) 0 (instants_in (words journal))) (score_before score no-fact accepted)
       ∙ check_from_before_lem accepted (instants_in (words journal)) (start_bytes (decode_before score)) 0))

@@ -17,9 +17,8 @@ use Rattle.words.specs.Word.{field, kind, words, word_at}
 use Rattle.format.specs.declared.Sizes.{Sizes}
 use Rattle.format.specs.Format.{is_word, agent_of, decode_agent, rule_of}
 use Rattle.format.specs.Decode.{sizes, decode}
-use Rattle.check_verdicts.specs.declared.Verdict.{Verdict}
-use Rattle.check_verdicts.specs.declared.Verdict.TheVariants.{Accepted}
-use Rattle.check_verdicts.specs.Verdicts.{verdict_number, or_else}
+use Rattle.check_verdicts.specs.Verdict.{Verdict, Accepted}
+use Rattle.check_verdicts.specs.Verdicts.{verdict_number, or_else, by_verdict}
 use Rattle.check_words.specs.WordFaults.{at_word, ports_verdict, agent_verdict, root_verdict, rule_verdict}
 use Rattle.check_faults.specs.Faults.{length_verdict, head_verdict, count_verdict}
 use Rattle.check_circles.specs.Circles.{circle_from}
@@ -28,15 +27,13 @@ use Rattle.lent.specs.Lengths.{scratch_bytes, no_scratch}
 use Rattle.lent.specs.States.{state_fault, state_of, as_bytes, start_bytes, next_bytes, at_last}
 use Rattle.lent_maps.specs.Maps.{tokens_in}
 use Rattle.instant_call.specs.InstantCall.{Lent, Exit, length_fault, token_fault, kept, cleared, answered}
-use Rattle.instant_call.specs.declared.Reply.TheVariants.{Score as Turned, Lengths, State, Input, Last, Next}
+use Rattle.refusals.specs.Refused.{Turned, Lengths, State as NoState, Input, Differs, Last, Next}
 use Rattle.journal_form.specs.Form.{form_of}
 use Rattle.journal_instants.specs.Instants.{instants_in, inputs_in, input_lists}
 use Rattle.journal_words.specs.History.{entry}
-use Rattle.journal_step.specs.declared.Reply as history
-use Rattle.journal_step.specs.declared.Reply.TheVariants as reply
+use Rattle.journal_step.specs.Reply as history
 use Rattle.journal_step.specs.ByForm.{by_form}
-use Rattle.journal_run_list.specs.declared.Stop.TheVariants.{Not}
-use Rattle.journal_run_list.specs.Run.{Ran, stop_at, stopped, unless_stopped}
+use Rattle.journal_run_list.specs.Run.{Not, Ran, stop_at, stopped, unless_stopped}
 use Rattle.journal_run.specs.RunCall as run
 use Rattle.journal_check.specs.Check.{same}
 use Rattle.journal_check.specs.JournalCheckCall as journalcheck
@@ -89,11 +86,11 @@ played_before score l a = cond (state_fault (sizes score).agents (as_bytes (afte
 
 abbrev pub instant_before : List ℕ → List ℕ → Lent → Exit
 instant_before score input l =
-    cond (not (eqb (verdict_number (verdict_before score)) 0)) (kept l (Turned (verdict_before score)))
+    by_verdict (verdict_before score) (λ f. kept l (Turned f))
     (cond (length_fault input l) (kept l Lengths)
-    (cond (state_fault (sizes score).agents l.state) (kept l State)
+    (cond (state_fault (sizes score).agents l.state) (kept l NoState)
     (cond (token_fault score input) (kept l Input)
-    (cond (at_last l.state) (kept l Last)
+    (cond (at_last l.state) (kept l (Last 0))
     (played_before score l (answer (decode_before score) (state_of l.state) (tokens_in input)))))))
 
 abbrev pub run_from_before : List ℕ → List ℕ → ℕ → List (List ℕ) → Ran
@@ -105,23 +102,23 @@ run_from_before score state room (inputs ∷ more) =
 
 abbrev pub run_before : List ℕ → List ℕ → run.Lent → run.Exit
 run_before score inputs l =
-    cond (not (eqb (verdict_number (verdict_before score)) 0)) (run.kept l (reply.Score (verdict_before score)))
-    (cond (run.length_fault l) (run.kept l reply.Lengths)
-    (cond (state_fault (sizes score).agents l.state) (run.kept l reply.State)
+    by_verdict (verdict_before score) (λ f. run.kept l (Turned f))
+    (cond (run.length_fault l) (run.kept l Lengths)
+    (cond (state_fault (sizes score).agents l.state) (run.kept l NoState)
     (by_form (form_of false (sizes score).tokens inputs) (run.kept l)
     (run.ended l (run_from_before score l.state (length l.journal) (input_lists inputs))))))
 
 abbrev pub check_from_before : List ℕ → List ℕ → ℕ → List (List ℕ) → history.Reply
-check_from_before score state read [] = reply.Accepted read
+check_from_before score state read [] = history.Accepted read
 check_from_before score state read (ws ∷ more) =
     let a = answer (decode_before score) (state_of state) (inputs_in ws) in
-    cond (state_fault (sizes score).agents (as_bytes (after a))) reply.Unlawful
-    (cond (not (at_last state) && same ws (entry (decode_before score) (inputs_in ws) a)) (check_from_before score (next_bytes state a) (suc read) more) (reply.Differs read))
+    cond (state_fault (sizes score).agents (as_bytes (after a))) Next
+    (cond (not (at_last state) && same ws (entry (decode_before score) (inputs_in ws) a)) (check_from_before score (next_bytes state a) (suc read) more) (Differs read))
 
 abbrev pub check_before : List ℕ → List ℕ → List ℕ → journalcheck.Exit
 check_before score journal scratch =
-    cond (not (eqb (verdict_number (verdict_before score)) 0)) (journalcheck.left scratch (reply.Score (verdict_before score)))
-    (cond (not (eqb (length scratch) scratch_bytes)) (journalcheck.left scratch reply.Lengths)
+    by_verdict (verdict_before score) (λ f. journalcheck.left scratch (Turned f))
+    (cond (not (eqb (length scratch) scratch_bytes)) (journalcheck.left scratch Lengths)
     (by_form (form_of true (sizes score).tokens journal) (journalcheck.left scratch)
     (journalcheck.left no_scratch (check_from_before score (start_bytes (decode_before score)) 0 (instants_in (words journal))))))
 

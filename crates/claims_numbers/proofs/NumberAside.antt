@@ -11,22 +11,23 @@ use lib.Dec.{eqb}
 use lib.ListN.{length, drop}
 use Rattle.tcc.specs.Instant.{State, answer, after}
 use Rattle.format.specs.Decode.{sizes, decode}
-use Rattle.check_verdicts.specs.Verdicts.{verdict_number}
+use Rattle.std.proofs.Common.{Err}
+use Rattle.check_verdicts.specs.declared.Fault.{Fault}
+use Rattle.check_verdicts.specs.Verdict.{Verdict, Accepted}
+use Rattle.check_verdicts.specs.Verdicts.{by_verdict}
 use Rattle.check_score.specs.Check.{verdict}
 use Rattle.bits.specs.Bits.{bytes_of}
 use Rattle.lent.specs.Lengths.{state_bytes, map_bytes, scratch_bytes, no_scratch}
 use Rattle.lent.specs.States.{state_fault, state_of, as_bytes, instant_number, last_number, at_last, SameButNumber}
 use Rattle.lent.proofs.Numbered.{state_aside, fault_aside, numbered_alike}
 use Rattle.lent_maps.specs.Maps.{tokens_in}
-use Rattle.instant_call.specs.declared.Reply.{Reply}
-use Rattle.instant_call.specs.declared.Reply.TheVariants.{Score as Turned, Lengths, State as BadState, Input, Last, Next}
+use Rattle.instant_call.specs.Reply.{Reply}
+use Rattle.refusals.specs.Refused.{Turned, Lengths, State as BadState, Input, Last, Next}
 use Rattle.instant_call.specs.InstantCall.{lent, Exit, token_fault, kept, cleared, answered, exit}
-use Rattle.journal_form.specs.declared.Form.{Form}
-use Rattle.journal_form.specs.declared.Form.TheVariants.{Good, Bytes, Word}
-use Rattle.journal_form.specs.Form.{form_of}
+use Rattle.journal_form.specs.Form.{Form, Good, Bytes, Word, form_of}
 use Rattle.journal_instants.specs.Instants.{input_lists}
-use Rattle.journal_step.specs.declared.Reply.{Reply as RunReply}
-use Rattle.journal_step.specs.declared.Reply.TheVariants as reply
+use Rattle.journal_step.specs.Reply.{Reply as RunReply}
+use Rattle.refusals.specs.Refused as reply
 use Rattle.journal_step.specs.ByForm.{by_form}
 use Rattle.journal_run_list.specs.Run.{run_from}
 use Rattle.journal_run_list.proofs.Aside as runlist
@@ -52,17 +53,22 @@ both : (b : Bool) {x y x' y' : Exit} → AlikeExits x x' → AlikeExits y y' →
 both true p q = p
 both false p q = q
 
+-- by the verdict
+both_found : (v : Verdict) {down down' : Fault → Exit} {y y' : Exit} → ((f : Fault) → AlikeExits (down f) (down' f)) → AlikeExits y y' → AlikeExits (by_verdict v down y) (by_verdict v down' y')
+both_found Accepted p q = q
+both_found (Err f) p q = p f
+
 module _ (score input store output scratch : List ℕ) where
   -- the call by what it looks at: the length, the fault, the state and the number
   abbrev exit_by : ℕ → Bool → State → Bool → List ℕ → Exit
   exit_by n fault st last s =
       let l = lent s store output scratch in
       let a = answer (decode score) st (tokens_in input) in
-      cond (not (eqb (verdict_number (verdict score)) 0)) (kept l (Turned (verdict score)))
+      by_verdict (verdict score) (λ f. kept l (Turned f))
       (cond (not (eqb n state_bytes) || not (eqb (length input) map_bytes) || not (eqb (length store) map_bytes) || not (eqb (length output) map_bytes) || not (eqb (length scratch) scratch_bytes)) (kept l Lengths)
       (cond fault (kept l BadState)
       (cond (token_fault score input) (kept l Input)
-      (cond last (kept l Last)
+      (cond last (kept l (Last 0))
       (cond (state_fault (sizes score).agents (as_bytes (after a))) (cleared l Next) (answered (decode score) s a))))))
 
   module _ (s t : List ℕ) (same : SameButNumber s t) (below : instant_number s < last_number) (below' : instant_number t < last_number) where
@@ -80,11 +86,11 @@ module _ (score input store output scratch : List ℕ) where
     by_tests : (n : ℕ) (fault last : Bool) (st : State) → AlikeExits (exit_by n fault st last s) (exit_by n fault st last t)
     by_tests n fault last st =
         let a = answer (decode score) st (tokens_in input) in
-        both (not (eqb (verdict_number (verdict score)) 0)) (stays scratch (Turned (verdict score)))
+        both_found (verdict score) (λ f. stays scratch (Turned f))
         (both (not (eqb n state_bytes) || not (eqb (length input) map_bytes) || not (eqb (length store) map_bytes) || not (eqb (length output) map_bytes) || not (eqb (length scratch) scratch_bytes)) (stays scratch Lengths)
         (both fault (stays scratch BadState)
         (both (token_fault score input) (stays scratch Input)
-        (both last (stays scratch Last)
+        (both last (stays scratch (Last 0))
         (both (state_fault (sizes score).agents (as_bytes (after a))) (stays no_scratch Next)
         (record { replies = refl; states = numbered_alike (after a) (suc (instant_number s)) (suc (instant_number t)); stores = refl; outputs = refl; scratches = refl }))))))
 
@@ -114,12 +120,16 @@ both_runs : (b : Bool) {x y x' y' : run.Exit} → AlikeRuns x x' → AlikeRuns y
 both_runs true p q = p
 both_runs false p q = q
 
+both_runs_found : (v : Verdict) {down down' : Fault → run.Exit} {y y' : run.Exit} → ((f : Fault) → AlikeRuns (down f) (down' f)) → AlikeRuns y y' → AlikeRuns (by_verdict v down y) (by_verdict v down' y')
+both_runs_found Accepted p q = q
+both_runs_found (Err f) p q = p f
+
 module _ (score inputs journal scratch : List ℕ) where
   -- the run by what it looks at first: the length and the fault
   abbrev run_by : ℕ → Bool → List ℕ → run.Exit
   run_by n fault s =
       let l = run.lent s journal scratch in
-      cond (not (eqb (verdict_number (verdict score)) 0)) (run.kept l (reply.Score (verdict score)))
+      by_verdict (verdict score) (λ f. run.kept l (Turned f))
       (cond (not (eqb n state_bytes) || not (eqb (length scratch) scratch_bytes)) (run.kept l reply.Lengths)
       (cond fault (run.kept l reply.State)
       (by_form (form_of false (sizes score).tokens inputs) (run.kept l) (run.ended l (run_from score s (length journal) (input_lists inputs))))))
@@ -147,7 +157,7 @@ module _ (score inputs journal scratch : List ℕ) where
     alike_runs : AlikeRuns (run.exit score inputs (run.lent s journal scratch)) (run.exit score inputs (run.lent t journal scratch))
     unfolding run.exit
     alike_runs = rw looked_run
-        (both_runs (not (eqb (verdict_number (verdict score)) 0)) (stays_run (reply.Score (verdict score)))
+        (both_runs_found (verdict score) (λ f. stays_run (Turned f))
         (both_runs (not (eqb (length s) state_bytes) || not (eqb (length scratch) scratch_bytes)) (stays_run reply.Lengths)
         (both_runs (state_fault (sizes score).agents s) (stays_run reply.State) (by_form_lem (form_of false (sizes score).tokens inputs)))))
       where

@@ -3,27 +3,25 @@
 --     linked_number      so instants in a row add as many as they are
 --     advances, cue_numbers, journal_number, stopped_there, number_counts     the theorem and its parts
 use mathlib.Core.Path.{◌≡◌, refl, sym, ap, ◌∙◌}
-use mathlib.Core.Bool.{not}
 use mathlib.Core.List.{List}
 use Prim.Native.Nat.{ℕ, suc, ◌+◌, ◌<◌, ◌≤◌}
 use borrow.Author.Tests.{eqb-true, eqb-false}
 use native.Mathlib.Omega.{arith}
-use lib.Dec.{eqb}
 use lib.ListN.{length}
 use Rattle.laws.proofs.Booleans.{by_test}
 use Rattle.tcc.specs.Instant.{start_state, after}
 use Rattle.format.specs.Decode.{sizes, decode}
+use Rattle.std.proofs.Common.{Err}
 use Rattle.check_verdicts.specs.Verdicts.{verdict_number, verdict_value}
 use Rattle.check_verdicts.proofs.Verdicts.{number_few as verdict-few}
 use Rattle.check_score.specs.Check as check
+use Rattle.refusals.proofs.ByVerdict.{by_fault}
 use Rattle.lent.specs.States.{state_fault, as_bytes, instant_number, last_number, at_last}
 use Rattle.lent.proofs.Numbered.{number_round, next_number}
 use Rattle.lent_maps.specs.Maps.{tokens_in}
 use Rattle.instant_call.specs.InstantCall.{Lent, Exit, length_fault, token_fault, exit}
 use Rattle.journal_instants.specs.Instants.{input_lists}
-use Rattle.journal_run_list.specs.declared.Stop.{Stop}
-use Rattle.journal_run_list.specs.declared.Stop.TheVariants.{Not, Next, Last, Room}
-use Rattle.journal_run_list.specs.Run.{Ran}
+use Rattle.journal_run_list.specs.Run.{MayStop, Not, Next, Last, Room, Ran}
 use Rattle.journal_run_list.proofs.Numbers.{Reaches, run_number}
 use Rattle.journal_run.specs.RunCall.{ending}
 use Rattle.journal_run.specs.RunCall as run
@@ -60,10 +58,10 @@ module _ {score : List ℕ} where
       (omega (arith, next.0, rest.0), rest.1)
 
 advances : Advances
-advances score first last calls answered lent turn answers = linked_number (linked turn answers) (number_few first lent)
+advances score first _ calls answered lent turn answers = linked_number (linked turn answers) (number_few first lent)
 
 cue_numbers : CueNumbers
-cue_numbers score first last calls earlier later p lent turn answers = (linked_number (linked_split earlier later p (linked turn answers)).1 (number_few first lent)).0
+cue_numbers score first _ calls earlier later p lent turn answers = (linked_number (linked_split earlier later p (linked turn answers)).1 (number_few first lent)).0
 
 journal_number : JournalNumber
 journal_number score inputs before after answer at c = (
@@ -91,8 +89,7 @@ module _ (score input : List ℕ) (l : Lent) where
   there : There (exit score input l)
   unfolding exit
   there =
-      let v = check.verdict score in
-      by_test There (not (eqb (verdict_number v) 0)) (λ e. record { at_last_lem = λ n. absurd (omega (arith, verdict-few v, reply_number (verdict_number v) (verdict_value v))) })
+      by_fault There (check.verdict score) (λ f e. record { at_last_lem = λ n. absurd (omega (arith, verdict-few (Err f), reply_number (verdict_number (Err f)) (verdict_value (Err f)))) })
       (λ e. by_test There (length_fault input l) (λ e. record { at_last_lem = λ n. absurd (omega arith) })
       (λ e. by_test There (state_fault (sizes score).agents l.state) (λ e. record { at_last_lem = λ n. absurd (omega arith) })
       (λ e. by_test There (token_fault score input) (λ e. record { at_last_lem = λ n. absurd (omega arith) })
@@ -100,13 +97,13 @@ module _ (score input : List ℕ) (l : Lent) where
       (λ e. by_test There (state_fault (sizes score).agents (as_bytes (after (given score l.state (tokens_in input))))) (λ e. record { at_last_lem = λ n. absurd (omega arith) })
       (λ e. record { at_last_lem = λ n. absurd (omega arith) }))))))
 
-stop_last : (n : ℕ) (stop : Stop) → number_of (of_run_reply (ending stop n)) ≡ 18 → (stop ≡ Last) × (value_of (of_run_reply (ending stop n)) ≡ n)
+stop_last : (n : ℕ) (stop : MayStop) → number_of (of_run_reply (ending stop n)) ≡ 18 → (stop ≡ Last) × (value_of (of_run_reply (ending stop n)) ≡ n)
 stop_last n Not e = absurd (omega arith)
 stop_last n Next e = absurd (omega arith)
 stop_last n Last e = (refl, refl)
 stop_last n Room e = absurd (omega arith)
 
-stop_full : (n : ℕ) (stop : Stop) → number_of (of_run_reply (ending stop n)) ≡ 15 → stop ≡ Room
+stop_full : (n : ℕ) (stop : MayStop) → number_of (of_run_reply (ending stop n)) ≡ 15 → stop ≡ Room
 stop_full n Not e = absurd (omega arith)
 stop_full n Next e = absurd (omega arith)
 stop_full n Last e = absurd (omega arith)

@@ -8,15 +8,16 @@ use Prim.Native.Nat.{ℕ, suc}
 use lib.Dec.{eqb, leb}
 use lib.ListN.{length}
 use Rattle.format.specs.Decode.{sizes, decode}
-use Rattle.check_verdicts.specs.Verdicts.{verdict_number}
+use Rattle.check_verdicts.specs.Verdicts.{by_verdict}
 use Rattle.check_score.specs.Check.{verdict}
 use Rattle.lent.specs.Lengths.{state_bytes}
 use Rattle.lent.specs.States.{state_fault, state_of}
 use Rattle.settings_tried.specs.declared.Counts.{Counts}
 use Rattle.settings_tried.specs.AnyOrder.{Reordered}
 use Rattle.settings_tried.proofs.AnyOrder as settings
-use Rattle.settings_call.specs.declared.Reply.{Reply}
-use Rattle.settings_call.specs.declared.Reply.TheVariants.{Score as Turned, Lengths, State, Switches, Counted}
+use Rattle.settings_call.specs.Reply.{Reply}
+use Rattle.refusals.specs.Refused.{Turned, Lengths, State, Switches}
+use Rattle.std.proofs.Common.{Ok}
 use Rattle.settings_call.specs.SettingsCall.{press_fault, reply}
 use Rattle.score_answer.specs.Answer.{packed}
 use Rattle.score_answer.specs.Replies.{of_settings}
@@ -30,10 +31,10 @@ module _ (score state switches others : List ℕ) (k : ℕ) (h : Reordered switc
   unfolding reply
   reply_same =
       ap₂ (λ (fault : Bool) (c : Counts).
-      cond (not (eqb (verdict_number (verdict score)) 0)) (Turned (verdict score))
+      by_verdict {E = Reply} (verdict score) Turned
       (cond (not (eqb (length state) state_bytes)) Lengths
       (cond (state_fault (sizes score).agents state) State
-      (cond fault Switches (Counted c)))))
+      (cond fault Switches (Ok c)))))
       fault_same (settings.any_order (decode score) (state_of state) k switches others h)
 
 pub any_order : AnyOrder

@@ -7,18 +7,19 @@ use mathlib.Core.List.{List}
 use Prim.Native.Nat.{ℕ, zero, suc, ◌<◌, ◌≤◌}
 use native.Mathlib.Omega.{arith}
 use Rattle.format.specs.Decode.{decode}
+use Rattle.std.proofs.Common.{Err}
 use Rattle.check_verdicts.specs.Verdicts.{verdict_number, verdict_value}
-use Rattle.check_score.specs.Check as check
+use Rattle.refusals.specs.declared.Refusal.{Refusal}
 use Rattle.lent.specs.States.{state_of}
 use Rattle.settings_tried.specs.Settings.{settings, counts, ending}
-use Rattle.settings_call.specs.declared.Reply.{Reply as Replied}
+use Rattle.settings_call.specs.Reply.{Reply as Replied}
 use Rattle.settings_call.specs.SettingsCall.{reply}
 use Rattle.settings_call.proofs.Outcomes.{Accepts, Outcome, turned, lengths, unlawful, switched, counted, outcome}
 use Rattle.score_answer.specs.Answer.{number_of, settings_of, number_in, settings_in}
 use Rattle.score_answer.specs.Answer as answers
 use Rattle.score_answer.specs.Replies.{of_settings}
 use Rattle.score_answer.proofs.Answer.{none_beyond}
-use Rattle.score_answer.proofs.Replies.{reply_number}
+use Rattle.score_answer.proofs.Refusals.{refusal_numbered}
 use Rattle.score.specs.ScoreSettings.{ScoreSettings}
 use Rattle.score.proofs.ScoreSettings.{read}
 
@@ -46,9 +47,7 @@ module _ {score state switches : List ℕ} {k answer : ℕ} where
       number_is r q = ap (λ x. number_of (of_settings x)) (sym q) ∙ sym (read score state switches k answer c).number ∙ n
 
       go : (r : Replied) → reply score state switches k ≡ r → Outcome score state switches k r → Found score state switches k answer
-      go r q (turned not-zero) =
-          let v = check.verdict score in
-          absurd (not-zero (sym (reply_number (verdict_number v) (verdict_value v)) ∙ number_is r q))
+      go r q (turned f e) = absurd (refusal_numbered (Refusal.Score f) (number_is r q))
       go r q lengths = absurd (omega (arith, number_is r q))
       go r q unlawful = absurd (omega (arith, number_is r q))
       go r q switched = absurd (omega (arith, number_is r q))
@@ -67,7 +66,7 @@ module _ {score state switches : List ℕ} {k answer : ℕ} where
       turned_none (suc n) v = refl
 
       go : (r : Replied) → reply score state switches k ≡ r → Outcome score state switches k r → number_in answer ≡ 0
-      go r q (turned not-zero) = let v = check.verdict score in absurd (omega (arith, settings_are c r q status, turned_none (verdict_number v) (verdict_value v)))
+      go r q (turned f e) = absurd (omega (arith, settings_are c r q status, turned_none (verdict_number (Err f)) (verdict_value (Err f))))
       go r q lengths = absurd (omega (arith, settings_are c r q status))
       go r q unlawful = absurd (omega (arith, settings_are c r q status))
       go r q switched = absurd (omega (arith, settings_are c r q status))

@@ -9,7 +9,7 @@ use lib.ListN.{length, drop}
 use Rattle.laws.proofs.Booleans.{true_is_false, both_and}
 use Rattle.tcc.specs.Score.{Score}
 use Rattle.tcc.specs.Lawful.{Lawful}
-use Rattle.check_verdicts.specs.declared.Verdict.TheVariants.{Accepted}
+use Rattle.check_verdicts.specs.Verdict.{Accepted}
 use Rattle.draft_language.specs.Draft.{whens}
 use Rattle.draft_plain.specs.Plain.{plain_of, fits}
 use Rattle.draft_plain.proofs.Unchanged.{unchanged}

@@ -17,10 +17,12 @@ use lib.ListN.{length, take, drop, take-append-drop}
 use lib.Seq.{take_at}
 use Rattle.format.specs.Limits.{most_bytes}
 use Rattle.format.specs.Decode.{decode}
-use Rattle.check_verdicts.specs.declared.Verdict.TheVariants.{Accepted}
+use Rattle.std.proofs.Common.{Err}
+use Rattle.check_verdicts.specs.Verdict.{Accepted}
 use Rattle.check_verdicts.specs.Verdicts.{verdict_number, verdict_value}
 use Rattle.check_verdicts.proofs.Verdicts.{number_few}
 use Rattle.check_score.specs.Check.{verdict}
+use Rattle.refusals.specs.declared.Refusal.{Refusal}
 use Rattle.draft_language.specs.Draft.{Draft, LawfulDraft}
 use Rattle.draft_language.specs.Chain.{InputsKnown}
 use Rattle.draft_plain.specs.Plain.{plain_of, fits}
@@ -32,6 +34,7 @@ use Rattle.draft_call.proofs.Plain.{plain_written, Outcome, turned, lengths, lar
 use Rattle.score_answer.specs.Answer.{number_of, value_of, number_in, value_in}
 use Rattle.score_answer.specs.Replies.{of_translation}
 use Rattle.score_answer.proofs.Replies.{reply_number}
+use Rattle.score_answer.proofs.Refusals.{refusal_numbered}
 use Rattle.score.specs.ScoreTranslate.{ScoreTranslate}
 use Rattle.score.proofs.ScoreTranslate.{bytes_below, read}
 use Rattle.claims_watches.specs.Translations.{plain_in, Translated}
@@ -62,10 +65,9 @@ module _ {draft before after : List ℕ} {answer : ℕ} (c : ScoreTranslate draf
   ended = go (exit draft before) refl (outcome draft before)
     where
       go : (e : Exit) → exit draft before ≡ e → Outcome draft before e → Ended draft before after answer
-      go e q (turned n) =
-          let v = draft_verdict draft in
-          let is : number_in answer ≡ verdict_number v = number_is e q ∙ reply_number (verdict_number v) (verdict_value v) in
-          refused (λ z. n (sym is ∙ z)) (λ z. omega (arith, number_few v)) (λ a l. n (ap verdict_number a)) (plain_left e q)
+      go e q (turned f t) =
+          let is : number_in answer ≡ verdict_number (Err f) = number_is e q ∙ reply_number (verdict_number (Err f)) (verdict_value (Err f)) in
+          refused (λ z. refusal_numbered (Refusal.Score f) (sym (number_is e q) ∙ z)) (λ z. omega (arith, number_few (Err f))) (λ a l. cc) (plain_left e q)
       go e q (lengths a n) = let is : number_in answer ≡ 8 = number_is e q in refused (λ z. omega arith) (λ z. omega arith) (λ b l. n l) (plain_left e q)
       go e q (large a l f) = over f (number_is e q) (plain_left e q)
       go e q (writes a l f) = wrote (record { accepted = a; fit = f; number = number_is e q; value = value_is e q; plain = plain_left e q })

@@ -2,7 +2,7 @@
 --     Returned       at the contract of score_translate
 use Rattle.std.specs.Prelude.{◌≡◌, List, ◌++◌, ℕ, length, drop}
 use Rattle.format.specs.Limits.{most_bytes}
-use Rattle.check_verdicts.specs.declared.Verdict.TheVariants.{Accepted}
+use Rattle.check_verdicts.specs.Verdict.{Accepted}
 use Rattle.check_score.specs.Check.{verdict}
 use Rattle.draft_plain.specs.Unchanged.{AllOnPaths}
 use Rattle.draft_format.specs.DraftFile.{decode_draft}

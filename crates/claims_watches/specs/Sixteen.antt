@@ -3,7 +3,7 @@
 --                    answered 16 leaves the buffer as it was
 use Rattle.std.specs.Prelude.{◌≡◌, List, ℕ, length}
 use Rattle.format.specs.Limits.{most_bytes}
-use Rattle.check_verdicts.specs.declared.Verdict.TheVariants.{Accepted}
+use Rattle.check_verdicts.specs.Verdict.{Accepted}
 use Rattle.draft_plain.specs.Limits.{Passes}
 use Rattle.draft_format.specs.DraftFile.{draft_verdict, decode_draft}
 use Rattle.score_answer.specs.Answer.{number_in}

@@ -9,7 +9,7 @@ use Rattle.std.specs.Prelude.{◌≡◌, ℕ, ◌*◌, ◌≤◌, length, take, 
 use mathlib.Core.List.{List, ◌++◌, Memᴰ}
 use Rattle.tcc.specs.Instant.{start_state}
 use Rattle.format.specs.Decode.{decode}
-use Rattle.check_verdicts.specs.declared.Verdict.TheVariants.{Accepted}
+use Rattle.check_verdicts.specs.Verdict.{Accepted}
 use Rattle.check_score.specs.Check.{verdict}
 use Rattle.bits.specs.Bits.{bytes_of}
 use Rattle.lent.specs.States.{start_bytes, last_number}

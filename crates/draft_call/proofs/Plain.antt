@@ -19,14 +19,17 @@ use Rattle.words.specs.Word.{field, words}
 use Rattle.format.specs.Limits.{most_bytes}
 use Rattle.format.specs.Format.{is_fact, rule_of}
 use Rattle.format.specs.Decode.{sizes, decode}
-use Rattle.check_verdicts.specs.declared.Verdict.TheVariants.{Accepted}
+use Rattle.std.proofs.Common.{Err}
+use Rattle.check_verdicts.specs.declared.Fault.{Fault}
+use Rattle.check_verdicts.specs.Verdict.{Accepted}
 use Rattle.check_verdicts.specs.Verdicts.{verdict_number}
 use Rattle.check_verdicts.proofs.Verdicts.{both_accepted, accepted_only}
 use Rattle.check_faults.specs.Faults.{length_verdict}
 use Rattle.check_faults.proofs.Accepted.{length_accepted}
 use Rattle.check_score.specs.Check.{verdict}
+use Rattle.refusals.proofs.ByVerdict.{by_fault}
 use Rattle.draft_plain.specs.Plain.{plain_of, fits}
-use Rattle.draft_plain.specs.declared.Reply.TheVariants.{Draft as Turned, Lengths, Large}
+use Rattle.refusals.specs.Refused.{Turned, Lengths, Large}
 use Rattle.draft_plain.proofs.PlainLawful.{plain_lawful, plain_formed}
 use Rattle.encoding.specs.Encode.{RuleFormed, score_bytes}
 use Rattle.encoding.proofs.DecodesBack as encoding
@@ -55,7 +58,7 @@ module _ (draft : List ℕ) (bytes : Within (λ b. b < 256) draft) (accepted : d
   plain_short = accepted_short (score_bytes (plain_of (decode_draft draft))) plain_written.0
 
 pub data Outcome (draft before : List ℕ) : Exit → Type 0 where
-  turned : (verdict_number (draft_verdict draft) ≡ 0 → ⊥) → Outcome draft before (kept before (Turned (draft_verdict draft)))
+  turned : (f : Fault) → draft_verdict draft ≡ Err f → Outcome draft before (kept before (Turned f))
   lengths : draft_verdict draft ≡ Accepted → (length before ≡ most_bytes → ⊥) → Outcome draft before (kept before Lengths)
   large : draft_verdict draft ≡ Accepted → length before ≡ most_bytes → fits (plain_of (decode_draft draft)) ≡ false → Outcome draft before (kept before Large)
   writes : draft_verdict draft ≡ Accepted → length before ≡ most_bytes → fits (plain_of (decode_draft draft)) ≡ true → Outcome draft before (written before (plain_of (decode_draft draft)))
@@ -63,9 +66,8 @@ pub data Outcome (draft before : List ℕ) : Exit → Type 0 where
 pub outcome : (draft before : List ℕ) → Outcome draft before (exit draft before)
 unfolding exit
 outcome draft before =
-    let number = verdict_number (draft_verdict draft) in
-    by_test (Outcome draft before) (not (eqb number 0)) (λ e. turned (eqb-false number 0 (not-true (eqb number 0) e)))
-    (λ passed. let accepted = accepted_only (draft_verdict draft) (eqb-true number 0 (not-false (eqb number 0) passed)) in
+    by_fault (Outcome draft before) (draft_verdict draft) turned
+    (λ passed. let accepted = accepted_only (draft_verdict draft) passed in
     by_test (Outcome draft before) (not (eqb (length before) most_bytes)) (λ e. lengths accepted (eqb-false (length before) most_bytes (not-true (eqb (length before) most_bytes) e)))
     (λ right. let long = eqb-true (length before) most_bytes (not-false (eqb (length before) most_bytes) right) in
     by_test (Outcome draft before) (fits (plain_of (decode_draft draft))) (λ e. writes accepted long e) (λ e. large accepted long e)))

@@ -22,7 +22,7 @@ use Rattle.tcc.specs.Score.{Score}
 use Rattle.tcc.specs.Lawful.{Lawful}
 use Rattle.words.specs.Word.{word_at}
 use Rattle.format.specs.Format.{is_word}
-use Rattle.check_verdicts.specs.declared.Verdict.TheVariants.{Accepted}
+use Rattle.check_verdicts.specs.Verdict.{Accepted}
 use Rattle.bits.specs.Bits.{bytes_of}
 use Rattle.bits.proofs.Bytes.{bytes_of_length}
 use Rattle.draft_plain.specs.Plain.{plain_of, member_rules}

@@ -9,13 +9,14 @@
 use Rattle.std.specs.Prelude.{◌≡◌, cond, not, List, ◌++◌, ℕ, eqb, length, drop}
 use Rattle.tcc.specs.Score.{Score}
 use Rattle.format.specs.Limits.{most_bytes}
-use Rattle.check_verdicts.specs.Verdicts.{verdict_number}
+use Rattle.check_verdicts.specs.Verdicts.{by_verdict}
 use Rattle.draft_language.specs.Draft.{Draft}
 use Rattle.draft_plain.specs.Plain.{plain_of, fits}
 use Rattle.encoding.specs.Encode.{score_bytes}
 use Rattle.draft_format.specs.DraftFile.{draft_verdict, decode_draft}
-use Rattle.draft_plain.specs.declared.Reply.{Reply}
-use Rattle.draft_plain.specs.declared.Reply.TheVariants.{Draft as Turned, Lengths, Large, Translated}
+use Rattle.draft_plain.specs.Reply.{Reply}
+use Rattle.refusals.specs.Refused.{Turned, Lengths, Large}
+use Rattle.draft_plain.specs.Reply.{Translated}
 
 pub record Exit : Type 0 where
   pub plain : List ℕ
@@ -32,7 +33,7 @@ translated plain d = cond (fits (plain_of d)) (written plain (plain_of d)) (kept
 
 unfoldable pub exit : List ℕ → List ℕ → Exit
 exit draft plain =
-    cond (not (eqb (verdict_number (draft_verdict draft)) 0)) (kept plain (Turned (draft_verdict draft)))
+    by_verdict (draft_verdict draft) (λ f. kept plain (Turned f))
     (cond (not (eqb (length plain) most_bytes)) (kept plain Lengths)
     (translated plain (decode_draft draft)))
 

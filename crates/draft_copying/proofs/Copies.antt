@@ -1,12 +1,12 @@
 -- How copying composes.
---     Ready, ready_none              a table that copying may begin with: its pairs rise, and each is led to; an empty one is
+--     Ready                          a table that copying may begin with: its pairs rise, and each is led to
 --     Asked, ready_asked             the same as the clauses of a function say it
 --     Extended                       of the pairs before and after: several are there, and whatever is new has all that it
 --                                    leads to there
 --     extended_then                  so of more pairs, one after the other
 --     extended_entered               a pair that is entered, with all that it leads to, is copied
 --     AllCopied                      several pairs are there in a table, or there are too many
---     all_none, all_one, all_then, all_over           no pair, one, more pairs, pairs not looked at where there are too many
+--     all_none, all_one, all_then    no pair, one, more pairs
 --     copied_ready                   a table is ready again once a pair is copied
 --     Entering, entering_given       a pair that is led to is entered in a table that is ready, as the clauses say it
 --     entered_ready, entered_higher  the table is ready again; a pair that was not there makes it longer
@@ -26,8 +26,9 @@ use native.Mathlib.Omega.{arith}
 use borrow.Author.Tests.{leb-true}
 use lib.Dec.{leb}
 use lib.ListN.{length, length-map}
+use Rattle.std.specs.Prelude.{Option, Some, None, IfSome, IfNone}
 use Rattle.laws.specs.Sets.{has}
-use Rattle.laws.specs.Rising.{Rising, none}
+use Rattle.laws.specs.Rising.{Rising}
 use Rattle.laws.proofs.Booleans.{true_is_false, and_both}
 use Rattle.laws.proofs.Sets.{Within, Among, on_cons, on_append, has_member, member_has}
 use Rattle.tcc.specs.Score.{Score}
@@ -47,9 +48,6 @@ pub record Ready (d : Draft) (count : ℕ) (table : List (List ℕ)) : Type 0 wh
   pub few : count ≤ 1088
   pub rising : Rising (keys count table)
   pub led : Within (Led d) (keys count table)
-
-pub ready_none : (d : Draft) (table : List (List ℕ)) → length table ≡ 1088 → Ready d 0 table
-ready_none d table h = record { long = h; few = omega arith; rising = none; led = λ k m. elim m [ ] }
 
 abbrev Asked : Draft → ℕ → List (List ℕ) → Type 0
 Asked d count table = (length table ≡ 1088) × ((count ≤ 1088) × (Rising (keys count table) × Within (Led d) (keys count table)))
@@ -91,62 +89,63 @@ module _ {d : Draft} where
       entered : (k : ℕ) → Memᴰ k (insert key before) → Memᴰ k before ⊎ Among (leads_to d k) after
       entered k m = ⊎_elim (λ (is : k ≡ key). inr (subst⁻¹ (λ i. Among (leads_to d i) after) is e.has)) inl (insert_member key before m)
 
-pub record AllCopied (d : Draft) (pairs : List ℕ) (count : ℕ) (before : List (List ℕ)) (r : ℕ) (after : List (List ℕ)) : Type 0 where
+pub record AllCopied (d : Draft) (pairs : List ℕ) (count : ℕ) (before : List (List ℕ)) (r : Option ℕ) (after : List (List ℕ)) : Type 0 where
   long : length after ≡ length before
-  more : count ≤ r
-  room : r ≤ 1088 → Extended d pairs (keys count before) (keys r after)
-  full : 1088 < r → Overfull d
+  room : IfSome r (λ n. (count ≤ n) × (n ≤ 1088) × Extended d pairs (keys count before) (keys n after))
+  full : IfNone r (Overfull d)
 
 module _ {d : Draft} where
-  pub all_none : {count : ℕ} {table : List (List ℕ)} → Ready d count table → AllCopied d [] count table count table
+  pub all_none : {count : ℕ} {table : List (List ℕ)} → Ready d count table → AllCopied d [] count table (Some count) table
   all_none ready =
       record {
         long = refl;
-        more = omega arith;
-        room = λ h. record { rising = ready.rising; led = ready.led; keeps = λ k m. m; has = λ k m. elim m [ ]; closes = λ k m. inl m };
-        full = λ h. absurd (omega (arith, ready.few));
+        room = (omega arith, ready.few, record { rising = ready.rising; led = ready.led; keeps = λ k m. m; has = λ k m. elim m [ ]; closes = λ k m. inl m });
+        full = tt;
       }
 
-  pub all_one : {m count r : ℕ} {before after : List (List ℕ)} → CopiedTo d m count before r after → AllCopied d (m ∷ []) count before r after
-  all_one {m} {count} {r} {before} {after} c =
+  pub all_one : {m count : ℕ} {before after : List (List ℕ)} (r : Option ℕ) → CopiedTo d m count before r after → AllCopied d (m ∷ []) count before r after
+  all_one None c = record { long = c.long; room = tt; full = c.full }
+  all_one {after = after} (Some n) c =
+      let (more, few, x) = c.room in
       record {
         long = c.long;
-        more = c.more;
-        room = λ h. let x = c.room h in record {
-          rising = x.rising;
-          led = x.led;
-          keeps = x.keeps;
-          has = on_cons {P = λ k. Memᴰ k (keys r after)} x.has (λ k y. elim y [ ]);
-          closes = x.closes;
-        };
-        full = c.full;
+        room = (
+          more,
+          few,
+          record {
+            rising = x.rising;
+            led = x.led;
+            keeps = x.keeps;
+            has = on_cons {P = λ k. Memᴰ k (keys n after)} x.has (λ k y. elim y [ ]);
+            closes = x.closes;
+          },
+        );
+        full = tt;
       }
 
-  pub all_then : {ms ns : List ℕ} {count half r : ℕ} {before mid after : List (List ℕ)} → AllCopied d ms count before half mid → AllCopied d ns half mid r after → AllCopied d (ms ++ ns) count before r after
-  all_then a b = record {
+  pub all_then : {ms ns : List ℕ} {count half : ℕ} {before mid after : List (List ℕ)} (r : Option ℕ) →
+      AllCopied d ms count before (Some half) mid → AllCopied d ns half mid r after → AllCopied d (ms ++ ns) count before r after
+  all_then None a b = record { long = b.long ∙ a.long; room = tt; full = b.full }
+  all_then (Some n) a b = record {
     long = b.long ∙ a.long;
-    more = omega (arith, a.more, b.more);
-    room = λ h. extended_then (a.room (omega (arith, b.more))) (b.room h);
-    full = b.full;
+    room = (omega (arith, a.room.0, b.room.0), b.room.1, extended_then a.room.2 b.room.2);
+    full = tt;
   }
 
-  pub all_over : {ms ns : List ℕ} {count r : ℕ} {before after : List (List ℕ)} → 1088 < r → AllCopied d ms count before r after → AllCopied d ns count before r after
-  all_over h a = record { long = a.long; more = a.more; room = λ g. absurd (omega arith); full = a.full }
-
-  pub copied_ready : {key count r : ℕ} {before after : List (List ℕ)} → Ready d count before → CopiedTo d key count before r after → r ≤ 1088 → Ready d r after
-  copied_ready ready c h = record { long = c.long ∙ ready.long; few = h; rising = (c.room h).rising; led = (c.room h).led }
+  pub copied_ready : {key count n : ℕ} {before after : List (List ℕ)} → Ready d count before → CopiedTo d key count before (Some n) after → Ready d n after
+  copied_ready ready c = let (more, few, x) = c.room in record { long = c.long ∙ ready.long; few = few; rising = x.rising; led = x.led }
 
 -- `row` is what the table has of the pair
-pub record Entering (d : Draft) (key row count : ℕ) (before : List (List ℕ)) (r : ℕ) (after : List (List ℕ)) : Type 0 where
+pub record Entering (d : Draft) (key row count : ℕ) (before : List (List ℕ)) (r : Option ℕ) (after : List (List ℕ)) : Type 0 where
   pub ready : Ready d count before
   pub led : Led d key
   pub is : row ≡ key
   pub entered : Entered row count before after r
 
-pub entering_given : {d : Draft} {key row count r : ℕ} {before after : List (List ℕ)} → Asked d count before → Led d key → row ≡ key → Entered row count before after r → Entering d key row count before r after
+pub entering_given : {d : Draft} {key row count : ℕ} {before after : List (List ℕ)} {r : Option ℕ} → Asked d count before → Led d key → row ≡ key → Entered row count before after r → Entering d key row count before r after
 entering_given asked led is entered = record { ready = record { long = asked.0; few = asked.1.0; rising = asked.1.1.0; led = asked.1.1.1 }; led = led; is = is; entered = entered }
 
-module _ {d : Draft} {key row count r : ℕ} {before after : List (List ℕ)} (g : Entering d key row count before r after) where
+module _ {d : Draft} {key row count : ℕ} {before after : List (List ℕ)} {r : Option ℕ} (g : Entering d key row count before r after) where
   abbrev old : List ℕ
   old = keys count before
 
@@ -159,64 +158,70 @@ module _ {d : Draft} {key row count r : ℕ} {before after : List (List ℕ)} (g
   with_key : Within (Led d) (insert key old)
   with_key k m = ⊎_elim (λ (is : k ≡ key). subst⁻¹ (Led d) is g.led) (g.ready.led k) (insert_member key old m)
 
-  entered_more : r ≤ 1088 → count ≤ r
-  entered_more h = omega (arith, many, (entered.room h).1, rising_among old (insert key old) g.ready.rising (insert_kept key old))
-
-  pub entered_higher : r ≤ 1088 → (r ≡ count → ⊥) → count < r
-  entered_higher h new = omega (arith, entered_more h)
-
-  pub entered_ready : r ≤ 1088 → Ready d r after
-  entered_ready h =
-      let is = sym (entered.room h).0 in
-      record {
-        long = entered.long ∙ g.ready.long;
-        few = h;
-        rising = subst Rising is (insert_rising key old g.ready.rising);
-        led = subst (Within (Led d)) is with_key;
-      }
-
   pub entered_led : Within (Led d) (leads_to d row)
   entered_led m x = on (subst⁻¹ (Led d) g.is g.led) x
 
-  pub entered_over : 1088 < r → CopiedTo d key count before r after
-  entered_over h =
-      let (all, new) = entered.full h in
+pub entered_over : {d : Draft} {key row count : ℕ} {before after : List (List ℕ)} → Entering d key row count before None after → CopiedTo d key count before None after
+entered_over {key = key} g =
+    let (all, new) = (entered g).full in
+    record {
+      long = g.entered.long;
+      room = tt;
+      full = record {
+        pairs = insert key (old g);
+        rising = insert_rising key (old g) g.ready.rising;
+        led = with_key g;
+        many = omega (arith, many g, insert_longer key (old g) new);
+      };
+    }
+
+module _ {d : Draft} {key row count n : ℕ} {before after : List (List ℕ)} (g : Entering d key row count before (Some n) after) where
+  room : (n ≤ 1088) × (keys n after ≡ insert key (old g)) × (n ≡ length (insert key (old g)))
+  room = (entered g).room
+
+  entered_more : count ≤ n
+  entered_more = omega (arith, many g, room.2, rising_among (old g) (insert key (old g)) g.ready.rising (insert_kept key (old g)))
+
+  pub entered_higher : (n ≡ count → ⊥) → count < n
+  entered_higher new = omega (arith, entered_more)
+
+  pub entered_ready : Ready d n after
+  entered_ready =
+      let is = sym room.1 in
       record {
-        long = entered.long;
-        more = omega arith;
-        room = λ le. absurd (omega arith);
-        full = λ lt. record {
-          pairs = insert key old;
-          rising = insert_rising key old g.ready.rising;
-          led = with_key;
-          many = omega (arith, many, insert_longer key old new);
-        };
+        long = g.entered.long ∙ g.ready.long;
+        few = room.0;
+        rising = subst Rising is (insert_rising key (old g) g.ready.rising);
+        led = subst (Within (Led d)) is (with_key g);
       }
 
-  pub copied_there : r ≡ count → CopiedTo d key count before count after
+  pub copied_there : n ≡ count → CopiedTo d key count before (Some count) after
   copied_there same =
-      let le : r ≤ 1088 = omega (arith, g.ready.few) in
-      let there : Memᴰ key old = go le (has key old) refl in
-      let kept : keys count after ≡ old = ap (λ n. keys n after) (sym same) ∙ (entered.room le).0 ∙ insert_present key old g.ready.rising there in
+      let there : Memᴰ key (old g) = go (has key (old g)) refl in
+      let kept : keys count after ≡ old g = ap (λ n. keys n after) (sym same) ∙ room.1 ∙ insert_present key (old g) g.ready.rising there in
       record {
-        long = entered.long;
-        more = omega arith;
-        room = λ h. subst⁻¹ (Copied d key old) kept (record { rising = g.ready.rising; led = g.ready.led; keeps = λ k m. m; has = there; closes = λ k m. inl m });
-        full = λ h. absurd (omega arith);
+        long = g.entered.long;
+        room = (omega arith, g.ready.few, subst⁻¹ (Copied d key (old g)) kept (record { rising = g.ready.rising; led = g.ready.led; keeps = λ k m. m; has = there; closes = λ k m. inl m }));
+        full = tt;
       }
     where
-      go : r ≤ 1088 → (b : Bool) → has key old ≡ b → Memᴰ key old
-      go le true e = has_member key old e
-      go le false e = absurd (omega (arith, many, (entered.room le).1, insert_longer key old (λ m. true_is_false (member_has m) e)))
+      go : (b : Bool) → has key (old g) ≡ b → Memᴰ key (old g)
+      go true e = has_member key (old g) e
+      go false e = absurd (omega (arith, many g, room.2, insert_longer key (old g) (λ m. true_is_false (member_has m) e)))
 
-  pub copied_all : {ms : List ℕ} {last : ℕ} {end : List (List ℕ)} → r ≤ 1088 → leads_to d row ≡ ms → AllCopied d ms r after last end → CopiedTo d key count before last end
-  copied_all {ms} {last} {end} h leads c =
+  pub copied_all : {ms : List ℕ} {end : List (List ℕ)} (last : Option ℕ) → leads_to d row ≡ ms → AllCopied d ms n after last end → CopiedTo d key count before last end
+  copied_all None leads c = record { long = c.long ∙ g.entered.long; room = tt; full = c.full }
+  copied_all {ms} {end} (Some last) leads c =
       let is : ms ≡ leads_to d key = sym leads ∙ ap (leads_to d) g.is in
+      let (more, few, x) = c.room in
       record {
-        long = c.long ∙ entered.long;
-        more = omega (arith, c.more, entered_more h);
-        room = λ le. extended_entered (subst (λ l. Extended d (leads_to d key) l (keys last end)) (entered.room h).0 (subst (λ l. Extended d l (keys r after) (keys last end)) is (c.room le)));
-        full = c.full;
+        long = c.long ∙ g.entered.long;
+        room = (
+          omega (arith, entered_more),
+          few,
+          extended_entered (subst (λ l. Extended d (leads_to d key) l (keys last end)) room.1 (subst (λ l. Extended d l (keys n after) (keys last end)) is x)),
+        );
+        full = tt;
       }
 
 large_misfit : (sc : Score) → (1024 < length sc.agents) ⊎ (64 < length sc.roots) → fits sc ≡ false
@@ -239,12 +244,17 @@ over_misfit d over = large_misfit (plain_of d) (⊎_elim
     (λ h. inl (subst⁻¹ (λ n. 1024 < n) (length-map (agent_places (places d)) _) h))
     (λ h. inr (subst⁻¹ (λ n. 64 < n) (length-map (procedure_places (places d)) _) h)) over)
 
-pub copied_places : {d : Draft} {r : ℕ} {before after : List (List ℕ)} → length before ≡ 1088 → CopiedTo d (pair (procedure_at 0) 0) 0 before r after → PlacesIn d r after
-copied_places {d} {r} {before} {after} long c =
+pub copied_places : {d : Draft} {before after : List (List ℕ)} (r : Option ℕ) → length before ≡ 1088 → CopiedTo d (pair (procedure_at 0) 0) 0 before r after → PlacesIn d r after
+copied_places {d} None long c = record { long = c.long ∙ long; exact = tt; over = over_misfit d (overfull_over d c.full) }
+copied_places {d} {after = after} (Some n) long c =
+    let (more, few, x) = c.room in
     record {
       long = c.long ∙ long;
-      exact = λ h. let x = c.room h in sym (places_unique d (keys r after) x.rising x.led
-          (record { starts = x.has; leads = λ k m. ⊎_elim (λ y. absurd (mathlib.Core.List.Memᴰ.not-nil y)) (λ f. f) (x.closes k m) })
-          (omega (arith, keys_length r after (omega (arith, c.long)))));
-      over = λ h. over_misfit d (overfull_over d (c.full h));
+      exact = (
+        few,
+        sym (places_unique d (keys n after) x.rising x.led
+            (record { starts = x.has; leads = λ k m. ⊎_elim (λ y. absurd (mathlib.Core.List.Memᴰ.not-nil y)) (λ f. f) (x.closes k m) })
+            (omega (arith, keys_length n after (omega (arith, c.long))))),
+      );
+      over = tt;
     }

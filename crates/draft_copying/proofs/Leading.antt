@@ -1,20 +1,16 @@
 -- Laws of what a reference leads to.
---     is_plain                      what a `match` that names a plain agent says of it, by the number of its kind
 --     Going                         a reference is followed through watches
---     going_first, going_on, going_ends      where it begins, past a watch, at an agent that is none
+--     going_on, going_ends          past a watch, at an agent that is none
 --     ends_agent, target_agent      it ends at an agent of the draft that is no watch
 use mathlib.Core.Path.{◌≡◌, refl, sym, ap, ◌∙◌, subst⁻¹}
-use mathlib.Core.List.{List, [], ◌∷◌}
+use mathlib.Core.List.{List}
 use Prim.Native.Nat.{ℕ, zero, suc, ◌^◌, ◌<◌}
 use native.Mathlib.Omega.{arith}
-use types.Run.{OneOf, miss}
-use denote.Enum.Declared.{tag_of}
 use Rattle.tcc.specs.declared.Agent.{Agent}
 use Rattle.format.specs.Decode.{sizes}
 use Rattle.draft_language.specs.Draft.{draft_agent_at}
 use Rattle.draft_language.specs.declared.DraftAgent.{DraftAgent}
 use Rattle.draft_language.specs.declared.DraftAgent.TheVariants.{Plain, Watch}
-use Rattle.draft_language.specs.contracts.DraftAgent.{the_type}
 use Rattle.draft_pairs.specs.TokenSets.{with}
 use Rattle.draft_pairs.specs.Pairs.{pair, number_in, set_in}
 use Rattle.draft_pairs.proofs.TokenSets.{with_bound, number_pair, set_pair, set_bound}
@@ -24,17 +20,10 @@ use Rattle.draft_format.specs.DraftFile.{decode_draft}
 use Rattle.draft_format.specs.Translatable.{Translatable}
 use Rattle.draft_copying.proofs.Translatable.{agents_many, token_few, body_below}
 
-pub is_plain : (w : DraftAgent) → OneOf (0 ∷ []) (tag_of the_type w) → (a : Agent) × (w ≡ Plain a)
-is_plain (Plain a) h = (a, refl)
-is_plain (Watch t b) h = absurd (miss (0 ∷ []) 1 tt h)
-
 -- agent i under the set of a pair leads to what the reference leads to under the set of the first pair
 pub record Going (s : List ℕ) (reference under i row : ℕ) : Type 0 where
   pub known : i < (sizes s).agents
   pub same : target (decode_draft s) i (set_in row) ≡ target (decode_draft s) reference (set_in under)
-
-pub going_first : {s : List ℕ} {reference under : ℕ} → reference < (sizes s).agents → Going s reference under reference under
-going_first h = record { known = h; same = refl }
 
 module _ {s : List ℕ} (ok : Translatable s) {reference under i row : ℕ} (g : Going s reference under i row) where
   pub going_on : {t b next : ℕ} → draft_agent_at (decode_draft s) i ≡ Watch t b → next ≡ pair (number_in row) (with t (set_in row)) → Going s reference under b next

@@ -1,15 +1,13 @@
 -- What is known where copying has entered a pair and knows what it leads to.
 --     procedure_leads      a procedure's pair leads to its root
---     is_nothing           what a `match` that names no reference says of it, by the number of its kind
 --     Reading              the pair is entered, and is that of an agent
 --     reading_below        what it refers to is the draft's
 --     reading_led          where it leads is led to
 --     reading_copied       the pair is copied once all that is
 use mathlib.Core.Path.{◌≡◌, refl, sym, ap, ◌∙◌, subst, subst⁻¹}
 use mathlib.Core.List.{List, [], ◌∷◌, Memᴰ}
-use Prim.Native.Nat.{ℕ, ◌≤◌}
-use types.Run.{OneOf, miss}
-use denote.Enum.Declared.{tag_of}
+use Prim.Native.Nat.{ℕ}
+use Rattle.std.specs.Prelude.{Option, Some}
 use Rattle.laws.proofs.Sets.{Within}
 use Rattle.tcc.specs.Score.{root_of}
 use Rattle.format.specs.Decode.{sizes, decode}
@@ -22,8 +20,6 @@ use Rattle.draft_plain.proofs.Places.{KnownAgent, leads_procedure}
 use Rattle.draft_format.specs.DraftFile.{decode_draft}
 use Rattle.draft_format.specs.Translatable.{Translatable}
 use Rattle.draft_copying.specs.declared.targets.References.{References}
-use Rattle.draft_copying.specs.declared.targets.References.TheVariants.{Nothing, Body, Halves, Procedure}
-use Rattle.draft_copying.specs.contracts.targets.References.{the_type}
 use Rattle.draft_copying.proofs.Translatable.{root_read}
 use Rattle.draft_copying.specs.Referring.{references_of}
 use Rattle.draft_copying.proofs.Referring.{leads_by, RefersBelow, refers_leads, refers_below}
@@ -35,20 +31,13 @@ procedure_leads s p under {row} {root} is named =
     leads_procedure (decode_draft s) row refl p (ap number_in is ∙ number_pair (procedure_at p) (set_in under) (set_bound under))
     ∙ ap (λ i. target (decode_draft s) i (set_in row) ∷ []) (sym (named ∙ root_read s p))
 
-pub is_nothing : (x : References) → OneOf (0 ∷ []) (tag_of the_type x) → x ≡ Nothing
-is_nothing Nothing h = refl
-is_nothing (Body b) h = absurd (miss (0 ∷ []) 1 tt h)
-is_nothing (Halves a b) h = absurd (miss (0 ∷ []) 2 tt h)
-is_nothing (Procedure p) h = absurd (miss (0 ∷ []) 3 tt h)
-
-pub record Reading (s : List ℕ) (key row count : ℕ) (before : List (List ℕ)) (r : ℕ) (after : List (List ℕ)) (refers : References) : Type 0 where
+pub record Reading (s : List ℕ) (key row count : ℕ) (before : List (List ℕ)) (n : ℕ) (after : List (List ℕ)) (refers : References) : Type 0 where
   pub ok : Translatable s
-  pub entering : Entering (decode_draft s) key row count before r after
-  pub room : r ≤ 1088
+  pub entering : Entering (decode_draft s) key row count before (Some n) after
   pub agent : KnownAgent (decode_draft s) row
   pub is : refers ≡ references_of (draft_agent_at (decode_draft s) (number_in row))
 
-module _ {s : List ℕ} {key row count r : ℕ} {before after : List (List ℕ)} {refers x : References} (g : Reading s key row count before r after refers) (e : refers ≡ x) where
+module _ {s : List ℕ} {key row count n : ℕ} {before after : List (List ℕ)} {refers x : References} (g : Reading s key row count before n after refers) (e : refers ≡ x) where
   leads : leads_to (decode_draft s) row ≡ leads_by (decode_draft s) (set_in row) x
   leads = refers_leads g.ok g.agent g.is ∙ ap (leads_by (decode_draft s) (set_in row)) e
 
@@ -58,5 +47,5 @@ module _ {s : List ℕ} {key row count r : ℕ} {before after : List (List ℕ)}
   pub reading_led : Within (Led (decode_draft s)) (leads_by (decode_draft s) (set_in row) x)
   reading_led m y = entered_led g.entering m (subst⁻¹ (Memᴰ m) leads y)
 
-  pub reading_copied : {last : ℕ} {end : List (List ℕ)} → AllCopied (decode_draft s) (leads_by (decode_draft s) (set_in row) x) r after last end → CopiedTo (decode_draft s) key count before last end
-  reading_copied c = copied_all g.entering g.room leads c
+  pub reading_copied : {end : List (List ℕ)} (last : Option ℕ) → AllCopied (decode_draft s) (leads_by (decode_draft s) (set_in row) x) n after last end → CopiedTo (decode_draft s) key count before last end
+  reading_copied last c = copied_all g.entering last leads c

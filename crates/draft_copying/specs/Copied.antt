@@ -3,7 +3,7 @@
 --                    leads to there
 --     CopiedTo       so, or there are more pairs than a plain score can have
 --     PlacesIn       all pairs of a draft, or more than a plain score can have
-use Rattle.std.specs.Prelude.{◌≡◌, false, ◌⊎◌, ℕ, ◌<◌, ◌≤◌, length}
+use Rattle.std.specs.Prelude.{◌≡◌, false, ◌⊎◌, ℕ, ◌≤◌, length, Option, IfSome, IfNone}
 use mathlib.Core.List.{List, Memᴰ}
 use Rattle.laws.specs.Rising.{Rising}
 use Rattle.draft_language.specs.Draft.{Draft}
@@ -20,13 +20,12 @@ pub record Copied (d : Draft) (key : ℕ) (before after : List ℕ) : Type 0 whe
   pub has : Memᴰ key after
   pub closes : (k : ℕ) → Memᴰ k after → Memᴰ k before ⊎ ((m : ℕ) → Memᴰ m (leads_to d k) → Memᴰ m after)
 
-pub record CopiedTo (d : Draft) (key count : ℕ) (before : List (List ℕ)) (r : ℕ) (after : List (List ℕ)) : Type 0 where
+pub record CopiedTo (d : Draft) (key count : ℕ) (before : List (List ℕ)) (r : Option ℕ) (after : List (List ℕ)) : Type 0 where
   pub long : length after ≡ length before
-  pub more : count ≤ r
-  pub room : r ≤ most_pairs → Copied d key (keys count before) (keys r after)
-  pub full : most_pairs < r → Overfull d
+  pub room : IfSome r (λ n. (count ≤ n) × (n ≤ most_pairs) × Copied d key (keys count before) (keys n after))
+  pub full : IfNone r (Overfull d)
 
-pub record PlacesIn (d : Draft) (r : ℕ) (table : List (List ℕ)) : Type 0 where
+pub record PlacesIn (d : Draft) (r : Option ℕ) (table : List (List ℕ)) : Type 0 where
   pub long : length table ≡ most_pairs
-  pub exact : r ≤ most_pairs → keys r table ≡ places d
-  pub over : most_pairs < r → fits (plain_of d) ≡ false
+  pub exact : IfSome r (λ n. (n ≤ most_pairs) × (keys n table ≡ places d))
+  pub over : IfNone r (fits (plain_of d) ≡ false)

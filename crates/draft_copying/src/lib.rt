@@ -21,8 +21,8 @@ use crate::targets::References;
 use draft_pairs::Row;
 use draft_table::Table;
 
-// Copies all that the start of a draft leads to, and says how many pairs there are.
-pub fn copy_draft(draft: &[u8], agents: usize, table: &mut Table) -> usize
+// Copies all that the start of a draft leads to, and says how many pairs there are; none where there is no room for them.
+pub fn copy_draft(draft: &[u8], agents: usize, table: &mut Table) -> Option<usize>
     requires translatable { Translatable draft.now }
     requires agents_value { agents ≡ (sizes draft.now).agents }
     requires table_len { length table.old ≡ most_pairs }
@@ -31,7 +31,8 @@ pub fn copy_draft(draft: &[u8], agents: usize, table: &mut Table) -> usize
     copy_procedure(draft, agents, 0, draft_pairs::row_of(0), table, 0)
 }
 
-// Copies a procedure under a set, and all that it leads to, and says how many pairs there then are.
+// Copies a procedure under a set, and all that it leads to, and says how many pairs there then are; none where there is
+// no room for them.
 #[cycle(copy_agent_copy_procedure)]
 fn copy_procedure(
     draft: &[u8],
@@ -40,7 +41,7 @@ fn copy_procedure(
     under: Row,
     table: &mut Table,
     count: usize,
-) -> usize
+) -> Option<usize>
     requires translatable { Translatable draft.now }
     requires agents_value { agents ≡ (sizes draft.now).agents }
     requires procedure_bound { procedure < (sizes draft.now).procedures }
@@ -52,18 +53,16 @@ fn copy_procedure(
     ensures { CopiedTo (decode_draft draft.now) (pair (procedure_at procedure) (set_in (row_value under))) count table.old result table.new }
 {
     let row = draft_pairs::renumbered(under, draft_table::PROCEDURES + procedure);
-    let pairs = draft_table::enter(table, count, row);
+    let pairs = draft_table::enter(table, count, row)?;
     if pairs == count {
-        return count;
-    }
-    if draft_table::MOST < pairs {
-        return pairs;
+        return Some(count);
     }
     let root = format::root_of(draft, agents, procedure);
     copy_agent(draft, agents, root, row, table, pairs)
 }
 
-// Copies the agent that a reference leads to under a set, and all that it leads to, and says how many pairs there then are.
+// Copies the agent that a reference leads to under a set, and all that it leads to, and says how many pairs there then
+// are; none where there is no room for them.
 #[cycle(copy_agent_copy_procedure)]
 fn copy_agent(
     draft: &[u8],
@@ -72,7 +71,7 @@ fn copy_agent(
     under: Row,
     table: &mut Table,
     count: usize,
-) -> usize
+) -> Option<usize>
     requires translatable { Translatable draft.now }
     requires agents_value { agents ≡ (sizes draft.now).agents }
     requires reference_bound { reference < (sizes draft.now).agents }
@@ -84,21 +83,15 @@ fn copy_agent(
     ensures { CopiedTo (decode_draft draft.now) (places.target (decode_draft draft.now) reference (set_in (row_value under))) count table.old result table.new }
 {
     let row = targets::target(draft, reference, under);
-    let entered = draft_table::enter(table, count, row);
+    let entered = draft_table::enter(table, count, row)?;
     if entered == count {
-        return count;
-    }
-    if draft_table::MOST < entered {
-        return entered;
+        return Some(count);
     }
     match targets::references_of(draft_format::draft_agent_at(draft, draft_pairs::number_of(row))) {
-        References::Nothing => entered,
+        References::Nothing => Some(entered),
         References::Body(body) => copy_agent(draft, agents, body, row, table, entered),
         References::Halves(first, second) => {
-            let half = copy_agent(draft, agents, first, row, table, entered);
-            if draft_table::MOST < half {
-                return half;
-            }
+            let half = copy_agent(draft, agents, first, row, table, entered)?;
             copy_agent(draft, agents, second, row, table, half)
         }
         References::Procedure(p) => copy_procedure(draft, agents, p, row, table, entered),

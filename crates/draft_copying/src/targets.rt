@@ -29,18 +29,13 @@ pub fn target(draft: &[u8], reference: usize, under: Row) -> Row
 {
     let mut i = reference;
     let mut row = under;
-    loop {
-        match draft_format::draft_agent_at(draft, i) {
-            DraftAgent::Plain(_) => {
-                return draft_pairs::renumbered(row, i);
-            }
-            DraftAgent::Watch(token, body) => {
-                let added = draft_pairs::with_token(row, token);
-                row = added;
-                i = body;
-            }
-        }
+    while let DraftAgent::Watch(token, body) = draft_format::draft_agent_at(draft, i) {
+        // By a local: a call's result in the place of an array that the loop keeps gets no proof.
+        let added = draft_pairs::with_token(row, token);
+        row = added;
+        i = body;
     }
+    draft_pairs::renumbered(row, i)
 }
 
 // What an agent that is no watch refers to.
@@ -51,13 +46,9 @@ pub fn references_of(written: DraftAgent) -> References
         return References::Nothing;
     };
     match agent {
-        Agent::Skip => References::Nothing,
-        Agent::Abort => References::Nothing,
-        Agent::Tell(_) => References::Nothing,
+        Agent::Skip | Agent::Abort | Agent::Tell(_) => References::Nothing,
         Agent::Parallel(first, second) => References::Halves(first, second),
-        Agent::When(_, body) => References::Body(body),
-        Agent::Next(body) => References::Body(body),
-        Agent::Unless(_, body) => References::Body(body),
+        Agent::When(_, body) | Agent::Next(body) | Agent::Unless(_, body) => References::Body(body),
         Agent::Call(procedure) => References::Procedure(procedure),
     }
 }

@@ -17,6 +17,7 @@ use native.Mathlib.Omega.{arith}
 use borrow.Author.Tests.{lt-ltb, le-ltb}
 use lib.ListN.{length, get_or, take, drop, length-map, length-take, length-drop, get_or-eq_default, get_or-map}
 use lib.Seq.{get_or-take, get_or-drop, ext_get_or}
+use Rattle.std.proofs.Common.{None}
 use Rattle.laws.proofs.Lists.{entry_member}
 use Rattle.laws.proofs.Sets.{Within}
 use Rattle.tcc.specs.Lawful.{Lawful}
@@ -24,11 +25,10 @@ use Rattle.tcc.specs.Score.{agent_at}
 use Rattle.tcc.specs.declared.Agent.TheVariants.{Skip}
 use Rattle.words.specs.Word.{joined, field, kind, words, word_at}
 use Rattle.words.proofs.Words.{words_length, words_room, word_joined}
-use Rattle.format.specs.declared.Decoded.TheVariants.{Malformed}
 use Rattle.format.specs.Format.{sizes_of, decode_agent, agent_of, rule_of}
 use Rattle.format.specs.Decode.{sizes, decode}
 use Rattle.format.proofs.Decode.{decode_agent_lem, decode_agents, decode_roots, decode_rules, sizes_few}
-use Rattle.check_verdicts.specs.declared.Verdict.TheVariants.{Accepted, Form}
+use Rattle.check_verdicts.specs.Verdict.{Accepted, Form}
 use Rattle.check_verdicts.proofs.Verdicts.{refused}
 use Rattle.check_words.specs.WordFaults.{agent_verdict}
 use Rattle.check_faults.specs.Faults.{word_verdict}
@@ -157,7 +157,7 @@ module _ (s : List ℕ) (e : verdict s ≡ Accepted) where
       rw (le-ltb (2 + i) 2 (omega arith), lt-ltb (2 + i) (2 + (sizes s).agents) (omega arith), a)
       at (word_accepted s f (2 + i) (omega (arith, f.enough)) (omega arith))
 
-  agent_whole : (i : ℕ) → i < (sizes s).agents → decode_agent (word_at s (2 + i)) ≡ Malformed → ⊥
+  agent_whole : (i : ℕ) → i < (sizes s).agents → decode_agent (word_at s (2 + i)) ≡ None → ⊥
   agent_whole i lt malformed = refused (Form (2 + i)) (λ z. omega arith) (rw malformed at (agent_accepted i lt))
 
   no_watch_kind : (i : ℕ) → i < (sizes s).agents → kind (word_at s (2 + i)) ≡ 15 → ⊥

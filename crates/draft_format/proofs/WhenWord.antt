@@ -15,11 +15,11 @@ use native.Mathlib.Decide.{ℕ_discrete}
 use native.Mathlib.Omega.{arith}
 use borrow.Author.Tests.{eq-eqb, ne_eqb}
 use lib.Dec.{eqb}
+use Rattle.std.proofs.Common.{Some, None}
 use Rattle.laws.proofs.Booleans.{cond_true, cond_false}
 use Rattle.tcc.specs.declared.Agent.{Agent}
 use Rattle.tcc.specs.declared.Agent.TheVariants.{When}
 use Rattle.words.specs.Word.{joined, field, kind}
-use Rattle.format.specs.declared.Decoded.TheVariants.{Whole, Malformed}
 use Rattle.format.specs.Format.{clear, formed, decode_agent, agent_in, agent_of}
 use Rattle.draft_language.specs.Draft.{as_when}
 use Rattle.draft_language.specs.declared.DraftAgent.TheVariants.{Plain, Watch}
@@ -32,7 +32,7 @@ module _ (w : ℕ) (is : kind w ≡ 15) where
   pub watch_written : Watch (field w 10 8) (field w 0 10) ≡ draft_agent_of w
   watch_written = cond_true (Plain (agent_of w)) (eq-eqb (kind w) 15 is) refl
 
-  pub watch_malformed : decode_agent w ≡ Malformed
+  pub watch_malformed : decode_agent w ≡ None
   unfolding decode_agent
   watch_malformed = rw is
 
@@ -77,20 +77,20 @@ when_decoded : (w : ℕ) → kind w ≡ 7 → decode_agent w ≡ formed w 18 (Wh
 unfolding decode_agent
 when_decoded w is = rw is
 
-formed_whole : (w named : ℕ) (a : Agent) → (formed w named a ≡ Malformed → ⊥) → agent_in (formed w named a) ≡ a
+formed_whole : (w named : ℕ) (a : Agent) → (formed w named a ≡ None → ⊥) → agent_in (formed w named a) ≡ a
 formed_whole w named a whole = go (clear named w) whole
   where
-    go : (b : Bool) → (cond b (Whole a) Malformed ≡ Malformed → ⊥) → agent_in (cond b (Whole a) Malformed) ≡ a
+    go : (b : Bool) → (cond b (Some a) None ≡ None → ⊥) → agent_in (cond b (Some a) None) ≡ a
     go true n = refl
     go false n = absurd (n refl)
 
-when_read : (w : ℕ) → kind w ≡ 15 → (decode_agent (w - 2 ^ 31) ≡ Malformed → ⊥) → When (field w 10 8) (field w 0 10) ≡ agent_of (w - 2 ^ 31)
+when_read : (w : ℕ) → kind w ≡ 15 → (decode_agent (w - 2 ^ 31) ≡ None → ⊥) → When (field w 10 8) (field w 0 10) ≡ agent_of (w - 2 ^ 31)
 when_read w is whole =
     let v = w - 2 ^ 31 in
     let d = when_decoded v (when_kind w is) in
     sym (ap agent_in d ∙ formed_whole v 18 (When (field v 10 8) (field v 0 10)) (λ m. whole (d ∙ m)) ∙ ap₂ When (when_token w is) (when_body w is))
 
-pub written_read : (w : ℕ) → (decode_agent (when_word w) ≡ Malformed → ⊥) → as_when (draft_agent_of w) ≡ agent_of (when_word w)
+pub written_read : (w : ℕ) → (decode_agent (when_word w) ≡ None → ⊥) → as_when (draft_agent_of w) ≡ agent_of (when_word w)
 written_read w whole = by_cases (ℕ_discrete (kind w) 15)
     (λ is. ap as_when (sym (watch_written w is)) ∙ when_read w is (λ m. whole (ap decode_agent (sym (word_less w is)) ∙ m)) ∙ ap agent_of (word_less w is))
     (λ is-not. ap as_when (sym (plain_written w is-not)) ∙ ap agent_of (word_kept w is-not))

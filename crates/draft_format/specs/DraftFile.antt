@@ -8,7 +8,7 @@ use Rattle.std.specs.Prelude.{cond, ◌&&◌, List, [], ◌∷◌, map, ℕ, suc
 use Rattle.words.specs.Word.{field, kind, words, word_at}
 use Rattle.format.specs.Format.{agent_of, rule_of}
 use Rattle.format.specs.Decode.{sizes}
-use Rattle.check_verdicts.specs.declared.Verdict.{Verdict}
+use Rattle.check_verdicts.specs.Verdict.{Verdict}
 use Rattle.check_score.specs.Check.{verdict}
 use Rattle.draft_language.specs.Draft.{Draft}
 use Rattle.draft_language.specs.declared.DraftAgent.{DraftAgent}

@@ -5,13 +5,11 @@ ghost use Rattle.std.specs.Prelude.{◌≡◌, ◌+◌, ◌<◌, ◌≤◌, leng
 ghost use Rattle.tcc.specs.Limits.{most_agents};
 ghost use Rattle.words.specs.Word.{words};
 ghost use Rattle.format.specs.Decode.{sizes};
-ghost use Rattle.check_score.specs.Check.{verdict};
 ghost use Rattle.draft_language.specs.Draft.{draft_agent_at};
 ghost use Rattle.draft_format.specs.DraftFile.{when_byte, as_whens, draft_verdict, draft_agent_of, decode_draft};
 
-use check_verdicts::Verdict;
+use check_verdicts::{Fault, Verdict};
 use draft_language::DraftAgent;
-use format::Decoded;
 use tcc::Agent;
 
 // Checks a draft: as a score in which each watch is a when.
@@ -20,15 +18,15 @@ pub fn check(draft: &[u8]) -> Verdict
 {
     let count = draft.len();
     if count < 4 {
-        return Verdict::Length;
+        return Err(Fault::Length);
     }
     if format::MOST_BYTES < count {
-        return Verdict::Length;
+        return Err(Fault::Length);
     }
     let mut whens = [0u8; format::MOST_BYTES];
     let sizes = format::sizes_of(words::word_at(draft, 0));
     read_as_whens(draft, sizes.agents, &mut whens);
-    check_part(&whens, count)
+    check_score::check(&whens[..count])
 }
 
 // Copies a draft, with each watch as a when.
@@ -38,10 +36,8 @@ fn read_as_whens(draft: &[u8], agents: usize, whens: &mut [u8])
     requires draft_in_bounds { length draft.now ≤ length whens.old }
     ensures { take (length draft.now) whens.new ≡ as_whens draft.now }
 {
-    let mut n = 0;
-    while n < draft.len() {
-        whens[n] = when_byte(agents, n, draft[n]);
-        n += 1;
+    for (n, b) in draft.iter().enumerate() {
+        whens[n] = when_byte(agents, n, *b);
     }
 }
 
@@ -50,27 +46,11 @@ fn when_byte(agents: usize, n: usize, b: u8) -> u8
     requires { agents ≤ most_agents }
     ensures { result ≡ when_byte agents n b }
 {
-    if n % 4 != 3 {
-        return b;
+    if n % 4 == 3 && 8 <= n && n < 8 + 4 * agents && 240 <= b {
+        b - 128
+    } else {
+        b
     }
-    if n < 8 {
-        return b;
-    }
-    if 8 + 4 * agents <= n {
-        return b;
-    }
-    if b < 240 {
-        return b;
-    }
-    b - 128
-}
-
-// Checks the first bytes of a buffer.
-fn check_part(bytes: &[u8], count: usize) -> Verdict
-    requires { count ≤ length bytes.now }
-    ensures { result ≡ verdict (take count bytes.now) }
-{
-    check_score::check(&bytes[..count])
 }
 
 // An agent word of a draft.
@@ -80,10 +60,7 @@ pub fn draft_agent_of(w: u32) -> DraftAgent
     if words::bits(w, 28, 4) == 15 {
         return DraftAgent::Watch(format::number(w, 10, 8), format::number(w, 0, 10));
     }
-    match format::decode_agent(w) {
-        Decoded::Whole(agent) => DraftAgent::Plain(agent),
-        Decoded::Malformed => DraftAgent::Plain(Agent::Skip),
-    }
+    DraftAgent::Plain(format::decode_agent(w).unwrap_or(Agent::Skip))
 }
 
 // Agent i of a draft whose words are all there.

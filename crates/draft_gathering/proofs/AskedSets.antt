@@ -3,6 +3,7 @@
 --     insert_all_more            one number more is inserted last
 --     all_asked_more             what one pair more asks for comes last
 --     asked_kept, asked_step     it is the set asked for, where that has two tokens or more
+--     asks_nothing               an agent that is no next and no unless asks for none
 --     asked_more, asked_same     so one pair more adds its set to the asked sets, or nothing
 --     on_only                    what holds of 0 and of the members of a list holds of its only entry
 --     asked_tokens               the tokens of the set that an agent asks for are the draft's
@@ -23,6 +24,7 @@ use Rattle.tcc.specs.declared.Agent.{Agent}
 use Rattle.tcc.specs.declared.Agent.TheVariants.{Skip, Abort, Tell, Parallel, When, Next, Unless, Call}
 use Rattle.draft_language.specs.Draft.{Draft, draft_agent_at, as_when, LawfulDraft}
 use Rattle.draft_language.specs.declared.DraftAgent.{DraftAgent}
+use Rattle.draft_language.specs.declared.DraftAgent.TheVariants.{Plain}
 use Rattle.draft_pairs.specs.TokenSets.{holds, members, several}
 use Rattle.draft_pairs.specs.Pairs.{number_in, set_in, insert, insert_all, index_of}
 use Rattle.draft_pairs.proofs.TokenSets.{holds_none}
@@ -73,6 +75,16 @@ asked_kept set (When t b) = cond_false (0 ∷ []) none_several refl
 asked_kept set (Next b) = refl
 asked_kept set (Unless t b) = refl
 asked_kept set (Call p) = cond_false (0 ∷ []) none_several refl
+
+pub asks_nothing : (set : ℕ) (a : Agent) → ((b : ℕ) → a ≡ Next b → ⊥) → ((t b : ℕ) → a ≡ Unless t b → ⊥) → asked_by set (Plain a) ≡ 0
+asks_nothing set Skip next unless = refl
+asks_nothing set Abort next unless = refl
+asks_nothing set (Tell t) next unless = refl
+asks_nothing set (Parallel a b) next unless = refl
+asks_nothing set (When t b) next unless = refl
+asks_nothing set (Next b) next unless = absurd (next b refl)
+asks_nothing set (Unless t b) next unless = absurd (unless t b refl)
+asks_nothing set (Call p) next unless = refl
 
 module _ (d : Draft) (ks : List ℕ) (k : ℕ) {w : DraftAgent} (is : draft_agent_at d (number_in k) ≡ w) where
   abbrev asked : ℕ

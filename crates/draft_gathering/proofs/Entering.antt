@@ -11,12 +11,11 @@
 use mathlib.Core.Path.{◌≡◌, refl, sym, ap, ap₂, ◌∙◌}
 use mathlib.Core.Bool.{true, false}
 use mathlib.Core.List.{List, [], ◌∷◌, ◌++◌, Memᴰ}
-use mathlib.Core.Logic.{by_cases}
 use Prim.Native.Nat.{ℕ, suc, ◌+◌, ◌<◌, ◌≤◌}
-use native.Mathlib.Decide.{dec_lt}
 use native.Mathlib.Omega.{arith}
 use borrow.Author.Tests.{lt-ltb, le-ltb}
 use lib.Dec.{eqb, ltb}
+use Rattle.std.specs.Prelude.{Some}
 use lib.ListN.{length, get_or, length-map, length-take, length-drop}
 use Rattle.laws.specs.Rising.{Rising}
 use Rattle.laws.proofs.Booleans.{either}
@@ -72,15 +71,14 @@ module _ {d : Draft} {table : List (List ℕ)} {k count : ℕ} {sets : List (Lis
   next : keys (k + 1) table ≡ keys k table ++ (row_value (get_or table k []) ∷ [])
   next = keys_more table k h
 
-  pub entering_more : k < 1024 → 1 < length (members (set_in asked)) → {r : ℕ} {after : List (List ℕ)} → Entered asked count sets after r → Entering d table (k + 1) r after
-  entering_more low many {r} {after} e =
+  pub entering_more : k < 1024 → 1 < length (members (set_in asked)) → {n : ℕ} {after : List (List ℕ)} → Entered asked count sets after (Some n) → Entering d table (k + 1) n after
+  entering_more low many {n} {after} e =
       let many' : several wanted ≡ true = lt-ltb 1 (length (members wanted)) (omega (arith, size)) in
-      let room : r ≤ 1088 = by_cases (dec_lt 1088 r) (λ lt. absurd (omega (arith, e.full lt, g.few))) (λ ge. omega arith) in
-      let there = e.room room in
+      let (fits, there, longer) = e.room in
       record {
         long = e.long ∙ g.long;
-        few = omega (arith, there.1, insert_few asked (keys count sets), keys_length count sets (omega (arith, g.few, g.long)), g.few);
-        same = there.0 ∙ ap₂ insert by g.same ∙ sym (ap (asked_sets d) next ∙ asked_more d (keys k table) (row_value (get_or table k [])) is many');
+        few = omega (arith, longer, insert_few asked (keys count sets), keys_length count sets (omega (arith, g.few, g.long)), g.few);
+        same = there ∙ ap₂ insert by g.same ∙ sym (ap (asked_sets d) next ∙ asked_more d (keys k table) (row_value (get_or table k [])) is many');
       }
 
   pub entering_same : length (members (set_in asked)) ≤ 1 → Entering d table (k + 1) count sets

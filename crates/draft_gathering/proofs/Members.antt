@@ -1,29 +1,27 @@
 -- Laws of the tokens of a set, and of the rules from them.
 --     pair_first, pair_added     a pair of number 0 is its set, also where a token was added to that of another pair
 --     holds_high, held_in_lem    the set of a pair has no token from 256 on, and none that the pair as a number does not hold
---     none_held                  the first member of a set is 0 where no token is in it
---     First, first_later, first_here, first_kept     the first that is kept is the lowest that passes
---     first_held                 so the first member of a set is the lowest token that is in it
+--     first_found, as_found, lowest_found     the first token found in a set is its first member, and 0 where it has none
 --     rules_more                 a set more has as many rules more as it has members
-use mathlib.Core.Path.{◌≡◌, refl, sym, ap, subst, ◌∙◌}
-use mathlib.Core.Bool.{Bool, true, false}
+use mathlib.Core.Path.{◌≡◌, refl, ap, subst, ◌∙◌}
+use mathlib.Core.Bool.{Bool, true, false, cond}
 use mathlib.Core.List.{List, [], ◌∷◌, ◌++◌, map, Memᴰ}
 use mathlib.Core.Logic.{by_cases}
-use Prim.Native.Nat.{ℕ, zero, suc, ◌+◌, ◌%◌, ◌<◌, ◌≤◌}
+use Prim.Native.Nat.{ℕ, suc, ◌+◌, ◌%◌, ◌<◌, ◌≤◌}
 use native.Mathlib.Decide.{dec_lt}
 use native.Mathlib.Nat.{zero-add, lt_of_lt_of_le, div-eq_of_lt}
 use native.Mathlib.Omega.{arith}
 use lib.Dec.{eqb}
+use Rattle.std.specs.Prelude.{Option, Some, None, unwrap_or, option_map}
+use Rattle.std.specs.List.{find, filter, range_with_len}
 use lib.ListN.{length, get_or, length-append, length-map}
 use lib.Pow.{pow_mono}
-use Rattle.laws.specs.Sets.{below, keep}
 use Rattle.laws.proofs.Booleans.{true_is_false}
-use Rattle.laws.proofs.Sets.{below_lt, keep_append, keep_none}
 use Rattle.draft_language.proofs.Carries.{member_rule}
 use Rattle.draft_pairs.specs.TokenSets.{holds, with, members}
 use Rattle.draft_pairs.specs.Pairs.{pair, number_in, set_in}
 use Rattle.draft_pairs.proofs.TokenSets.{with_bound, member_holds, holds_member, set_pair, set_bound}
-use Rattle.draft_pairs.proofs.Rows.{members_set}
+use Rattle.draft_pairs.proofs.Rows.{members_set, members_below}
 use Rattle.draft_plain.specs.Plain.{member_rules}
 
 pub pair_first : (set : ℕ) → pair 0 set ≡ set
@@ -43,36 +41,22 @@ held_in_lem k t h =
     (λ ge. absurd (true_is_false h (holds_high k t (omega arith))))
 
 -- ---- the first member
-
-pub none_held : (set n : ℕ) → ((t : ℕ) → holds set t ≡ true → t < n) → ((t : ℕ) → t < n → holds set t ≡ false) → 0 ≡ get_or (members set) 0 0
-unfolding members
-none_held set n bound clear = sym (ap (λ l. get_or l 0 0) (keep_none (holds set) (below 256) (λ t m. go t (holds set t) refl)))
+first_found : (f : ℕ → Bool) (l : List ℕ) → unwrap_or (find f l) 0 ≡ get_or (filter f l) 0 0
+first_found f [] = refl
+first_found f (t ∷ l) = go (f t) (first_found f l)
   where
-    go : (t : ℕ) (b : Bool) → holds set t ≡ b → holds set t ≡ false
-    go t true e = clear t (bound t e)
-    go t false e = e
+    go : (b : Bool) → unwrap_or (find f l) 0 ≡ get_or (filter f l) 0 0 → unwrap_or (cond b (Some t) (find f l)) 0 ≡ get_or (cond b (t ∷ filter f l) (filter f l)) 0 0
+    go true rest = refl
+    go false rest = rest
 
--- a test that passes at t and not below
-module _ (f : ℕ → Bool) (t : ℕ) (passes : f t ≡ true) (lowest : (u : ℕ) → u < t → f u ≡ false) where
-  abbrev First : ℕ → Type 0
-  First m = (rest : List ℕ) × (keep f (below m) ≡ t ∷ rest)
+as_found : (o : Option ℕ) → unwrap_or o 0 ≡ unwrap_or (option_map (λ t. t) o) 0
+as_found None = refl
+as_found (Some t) = refl
 
-  first_later : (m : ℕ) → First m → First (suc m)
-  first_later m (rest, e) = (rest ++ keep f (m ∷ []), keep_append f (below m) (m ∷ []) ∙ ap (λ l. l ++ keep f (m ∷ [])) e)
-
-  first_here : First (suc t)
-  first_here =
-      let none : keep f (below t) ≡ [] = keep_none f (below t) (λ u m. lowest u (below_lt t u m)) in
-      let one : keep f (t ∷ []) ≡ t ∷ [] = rw passes in
-      ([], keep_append f (below t) (t ∷ []) ∙ rw (none, one))
-
-  first_kept : (m : ℕ) → t < m → First m
-  first_kept zero h = absurd (omega arith)
-  first_kept (suc m) h = let rest = first_kept m in by_cases (dec_lt t m) (λ lt. first_later m (rest lt)) (λ ge. let is : t ≡ m = omega arith in rw (← is) first_here)
-
-pub first_held : (set t : ℕ) → t < 256 → holds set t ≡ true → ((u : ℕ) → u < t → holds set u ≡ false) → t ≡ get_or (members set) 0 0
-unfolding members
-first_held set t h held lowest = sym (ap (λ l. get_or l 0 0) (first_kept (holds set) t held lowest 256 h).1)
+pub lowest_found : (set tokens : ℕ) (o : Option ℕ) → tokens ≤ 256 → ((t : ℕ) → holds set t ≡ true → t < tokens) →
+    option_map (λ t. t) o ≡ find (holds set) (range_with_len 0 tokens) → unwrap_or o 0 ≡ get_or (members set) 0 0
+lowest_found set tokens o h bound found =
+    as_found o ∙ ap (λ r. unwrap_or r 0) found ∙ first_found (holds set) (range_with_len 0 tokens) ∙ ap (λ l. get_or l 0 0) (members_below set tokens h bound)
 
 -- ---- the rules of sets
 

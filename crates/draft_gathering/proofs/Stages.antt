@@ -12,6 +12,7 @@ use mathlib.Core.Bool.{false}
 use mathlib.Core.List.{List}
 use Prim.Native.Nat.{ℕ, ◌+◌, ◌-◌, ◌<◌, ◌≤◌}
 use native.Mathlib.Omega.{arith}
+use Rattle.std.specs.Prelude.{Some}
 use lib.ListN.{length, get_or, drop, length-map, length-drop}
 use Rattle.laws.proofs.Lists.{on_entries}
 use Rattle.words.specs.Word.{words}
@@ -26,7 +27,7 @@ use Rattle.draft_plain.proofs.AskedLaws.{asked_known}
 use Rattle.draft_format.specs.DraftFile.{decode_draft, draft_verdict}
 use Rattle.draft_format.specs.Translatable.{Translatable}
 use Rattle.draft_format.proofs.Draft.{accepted_whole, accepted_lawful_draft}
-use Rattle.check_verdicts.specs.declared.Verdict.TheVariants.{Accepted}
+use Rattle.check_verdicts.specs.Verdict.{Accepted}
 use Rattle.draft_copying.specs.Copied.{PlacesIn}
 use Rattle.draft_gathering.specs.Asking.{TokensBelow}
 use Rattle.draft_gathering.specs.Gathered.{agents_in, sets_in, Gathered}
@@ -38,13 +39,14 @@ accepted_translatable s bytes e =
     record { whole = (accepted_whole s e).enough; lawful = accepted_lawful_draft s (on_entries (λ b. b < 256) s (λ j h. bytes j)) e }
 
 pub pairs_gathered : {s : List ℕ} {head : Sizes} {table : List (List ℕ)} {pairs copied : ℕ} → draft_verdict s ≡ Accepted → head ≡ sizes s →
-    PlacesIn (decode_draft s) pairs table → pairs ≤ 1088 → Parted (decode_draft s) table pairs copied → copied ≤ 1024 → pairs - copied ≤ 64 → PairsFit s head table pairs copied
-pairs_gathered e head_is all few p agents procedures =
+    PlacesIn (decode_draft s) (Some pairs) table → Parted (decode_draft s) table pairs copied → copied ≤ 1024 → pairs - copied ≤ 64 → PairsFit s head table pairs copied
+pairs_gathered e head_is all p agents procedures =
+    let (few, exact) = all.exact in
     record {
       accepted = e;
       head_is = head_is;
       pairs_fit = few;
-      pairs_are = all.exact few;
+      pairs_are = exact;
       copied_fit = agents;
       copied_are = p.agents_are;
       procedures_fit = omega (arith, procedures, p.procedures_many);

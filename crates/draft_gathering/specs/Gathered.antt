@@ -10,7 +10,7 @@ use Rattle.draft_plain.specs.Places.{places, agent_places, procedure_places}
 use Rattle.draft_plain.specs.Plain.{asked_sets, plain_of, fits}
 use Rattle.draft_format.specs.DraftFile.{decode_draft, draft_verdict}
 use Rattle.draft_format.specs.Translatable.{Translatable}
-use Rattle.check_verdicts.specs.declared.Verdict.TheVariants.{Accepted}
+use Rattle.check_verdicts.specs.Verdict.{Accepted}
 use Rattle.draft_gathering.specs.declared.Counts.{Counts}
 
 abbrev pub agents_in : List ℕ → List ℕ

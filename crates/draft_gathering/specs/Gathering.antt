@@ -1,7 +1,7 @@
 -- Contracts of inner functions: what gathering comes to.
 --     PairsFit       the pairs stand in a table, and no limit of agents and procedures is passed
 --     GatheredBy     all is gathered, or a limit is passed
-use Rattle.std.specs.Prelude.{◌≡◌, false, List, ℕ, ◌≤◌, length}
+use Rattle.std.specs.Prelude.{◌≡◌, false, List, ℕ, ◌≤◌, length, Option, Some, None}
 use Rattle.tcc.specs.Limits.{most_agents, most_procedures}
 use Rattle.format.specs.declared.Sizes.{Sizes}
 use Rattle.format.specs.Decode.{sizes}
@@ -10,10 +10,9 @@ use Rattle.draft_table.specs.Tables.{keys}
 use Rattle.draft_plain.specs.Places.{places}
 use Rattle.draft_plain.specs.Plain.{plain_of, fits}
 use Rattle.draft_format.specs.DraftFile.{decode_draft, draft_verdict}
-use Rattle.check_verdicts.specs.declared.Verdict.TheVariants.{Accepted}
+use Rattle.check_verdicts.specs.Verdict.{Accepted}
 use Rattle.draft_gathering.specs.Gathered.{agents_in, procedures_in, Gathered}
-use Rattle.draft_gathering.specs.declared.Gathering.{Gathering}
-use Rattle.draft_gathering.specs.declared.Gathering.TheVariants.{Large, Fits}
+use Rattle.draft_gathering.specs.declared.Counts.{Counts}
 
 pub record PairsFit (s : List ℕ) (head : Sizes) (table : List (List ℕ)) (pairs copied : ℕ) : Type 0 where
   pub accepted : draft_verdict s ≡ Accepted
@@ -25,6 +24,6 @@ pub record PairsFit (s : List ℕ) (head : Sizes) (table : List (List ℕ)) (pai
   pub procedures_fit : length (procedures_in s) ≤ most_procedures
   pub table_long : length table ≡ most_pairs
 
-abbrev pub GatheredBy : List ℕ → List (List ℕ) → List (List ℕ) → Gathering → Type 0
-GatheredBy s table sets Large = fits (plain_of (decode_draft s)) ≡ false
-GatheredBy s table sets (Fits n) = Gathered s n table sets
+abbrev pub GatheredBy : List ℕ → List (List ℕ) → List (List ℕ) → Option Counts → Type 0
+GatheredBy s table sets None = fits (plain_of (decode_draft s)) ≡ false
+GatheredBy s table sets (Some n) = Gathered s n table sets

@@ -24,22 +24,16 @@ pub fn asked_by(written: DraftAgent, row: Row) -> Row
     requires { (t : ℕ) → Memᴰ t (tokens_named written) → t < most_tokens }
     ensures { row_value result ≡ asked_by (set_in (row_value row)) written }
 {
-    let nothing = draft_pairs::row_of(0);
     let DraftAgent::Plain(agent) = written else {
-        return nothing;
+        return draft_pairs::row_of(0);
     };
     match agent {
-        Agent::Skip => nothing,
-        Agent::Abort => nothing,
-        Agent::Tell(_) => nothing,
-        Agent::Parallel(_, _) => nothing,
-        Agent::When(_, _) => nothing,
         Agent::Next(_) => draft_pairs::renumbered(row, 0),
         Agent::Unless(token, _) => {
             let own = draft_pairs::with_token(row, token);
             draft_pairs::renumbered(own, 0)
         }
-        Agent::Call(_) => nothing,
+        _ => draft_pairs::row_of(0),
     }
 }
 
@@ -62,16 +56,11 @@ pub fn enter_asked(
     ensures sets_len_2 { length sets.new ≡ most_pairs }
 {
     let mut count = 0;
-    let mut k = 0;
-    while k < agents {
-        let row = table[k];
-        let asked = asked_by(
-            draft_format::draft_agent_at(draft, draft_pairs::number_of(row)),
-            row,
-        );
-        k += 1;
+    for row in &table[..agents] {
+        let agent = draft_format::draft_agent_at(draft, draft_pairs::number_of(*row));
+        let asked = asked_by(agent, *row);
         if 1 < draft_pairs::token_count(asked, tokens) {
-            count = draft_table::enter(sets, count, asked);
+            count = draft_table::enter(sets, count, asked).unwrap();
         }
     }
     count
@@ -87,10 +76,8 @@ pub fn member_count(sets: &Table, count: usize, tokens: usize) -> usize
     ensures upper_bound { result ≤ 278528 }
 {
     let mut n = 0;
-    let mut s = 0;
-    while s < count {
-        n += draft_pairs::token_count(sets[s], tokens);
-        s += 1;
+    for set in &sets[..count] {
+        n += draft_pairs::token_count(*set, tokens);
     }
     n
 }
@@ -107,9 +94,10 @@ pub fn asked_token(set: Row, tokens: usize, sets: &Table, count: usize) -> usize
 {
     if 1 < draft_pairs::token_count(set, tokens) {
         let key = draft_pairs::renumbered(set, 0);
-        return tokens + draft_table::place(sets, count, key);
+        tokens + draft_table::place(sets, count, key)
+    } else {
+        lowest(set, tokens)
     }
-    lowest(set, tokens)
 }
 
 // The lowest token of a set; 0 where it has none.
@@ -118,12 +106,7 @@ fn lowest(set: Row, tokens: usize) -> usize
     requires by_index { (t : ℕ) → holds (set_in (row_value set)) t ≡ true → t < tokens }
     ensures { result ≡ get_or (members (set_in (row_value set))) 0 0 }
 {
-    let mut t = 0;
-    while t < tokens {
-        if draft_pairs::has_token(set, t) {
-            return t;
-        }
-        t += 1;
-    }
-    0
+    (0..tokens)
+        .find(|t| draft_pairs::has_token(set, *t))
+        .unwrap_or(0)
 }

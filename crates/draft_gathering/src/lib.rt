@@ -4,13 +4,24 @@
 pub mod asked;
 
 ghost use Rattle.std.specs.Prelude.{◌≡◌, length};
-ghost use Rattle.check_verdicts.specs.declared.Verdict.TheVariants.{Accepted};
+ghost use Rattle.check_verdicts.specs.Verdict.{Accepted};
 ghost use Rattle.draft_pairs.specs.Pairs.{most_pairs};
 ghost use Rattle.draft_format.specs.DraftFile.{draft_verdict};
+ghost use Rattle.draft_gathering.specs.Gathered.{Gathered};
 ghost use Rattle.draft_gathering.specs.Gathering.{PairsFit, GatheredBy};
 
 use draft_table::Table;
 use format::Sizes;
+
+// A draft, and its pairs and asked sets in two tables.
+#[derive(Clone, Copy)]
+pub struct Source<'a> {
+    pub draft: &'a [u8],
+    pub table: &'a Table,
+    pub sets: &'a Table,
+    pub n: Counts,
+    ghost gathered: { Gathered draft.now n table.now sets.now },
+}
 
 // How many there are: the draft's tokens, agents, procedures and words; its pairs, of them copied agents; its asked sets.
 #[derive(Clone, Copy)]
@@ -24,38 +35,24 @@ pub struct Counts {
     pub sets: usize,
 }
 
-// What is gathered of a draft.
-#[derive(Clone, Copy)]
-pub enum Gathering {
-    // The plain score would pass a size limit.
-    Large,
-    // The pairs and the asked sets are in the tables.
-    Fits(Counts),
-}
-
-// Gathers the pairs and the asked sets of an accepted draft in two tables.
-pub fn gather(draft: &[u8], table: &mut Table, sets: &mut Table) -> Gathering
+// Gathers the pairs and the asked sets of an accepted draft in two tables; none where the plain score would pass a size
+// limit.
+pub fn gather(draft: &[u8], table: &mut Table, sets: &mut Table) -> Option<Counts>
     requires draft_value { draft_verdict draft.now ≡ Accepted }
     requires table_len { length table.old ≡ most_pairs }
     requires sets_len { length sets.old ≡ most_pairs }
     ensures { GatheredBy draft.now table.new sets.new result }
 {
     let head = format::sizes_of(words::word_at(draft, 0));
-    let pairs = draft_copying::copy_draft(draft, head.agents, table);
-    if draft_table::MOST < pairs {
-        return Gathering::Large;
-    }
+    let pairs = draft_copying::copy_draft(draft, head.agents, table)?;
     let copied = draft_table::place(table, pairs, draft_pairs::row_of(draft_table::PROCEDURES));
-    if tcc::MOST_AGENTS < copied {
-        return Gathering::Large;
-    }
-    if tcc::MOST_PROCEDURES < pairs - copied {
-        return Gathering::Large;
+    if tcc::MOST_AGENTS < copied || tcc::MOST_PROCEDURES < pairs - copied {
+        return None;
     }
     gather_sets(draft, head, table, sets, pairs, copied)
 }
 
-// Gathers the asked sets, where the pairs fit.
+// Gathers the asked sets, where the pairs fit; none where the plain score would pass a size limit.
 fn gather_sets(
     draft: &[u8],
     head: Sizes,
@@ -63,27 +60,27 @@ fn gather_sets(
     sets: &mut Table,
     pairs: usize,
     copied: usize,
-) -> Gathering
+) -> Option<Counts>
     requires pairs_fit { PairsFit draft.now head table.now pairs copied }
     requires sets_len { length sets.old ≡ most_pairs }
     ensures { GatheredBy draft.now table.now sets.new result }
 {
     let count = asked::enter_asked(draft, head.tokens, table, copied, sets);
     if tcc::MOST_TOKENS < head.tokens + count {
-        return Gathering::Large;
+        return None;
     }
     let words = words::word_count(draft);
     let rules = words - (2 + head.agents + head.procedures);
     if tcc::MOST_RULES < rules + asked::member_count(sets, count, head.tokens) {
-        return Gathering::Large;
+        return None;
     }
-    Gathering::Fits(Counts {
+    Some(Counts {
         tokens: head.tokens,
         agents: head.agents,
         procedures: head.procedures,
-        words: words,
-        pairs: pairs,
-        copied: copied,
+        words,
+        pairs,
+        copied,
         sets: count,
     })
 }

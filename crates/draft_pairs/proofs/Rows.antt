@@ -4,34 +4,36 @@
 --     row_number, row_renumbered               the first digit is the pair's number; another first digit
 --     row_holds                                a token is in the set where its digit has its bit
 --     row_room, row_with                       a token that is not in: its bit added to its digit
---     count_more, count_few, count_members     tokens below a bound, counted; all of a set's, where none is above it
+--     members_below                            the tokens of a set below a bound are all, where none is above it
 --     members_set                              a pair's set has the members that the pair has as a number
---     agree_apart, agree_more, agree_all       rows that agree below a digit compare as that digit where it differs;
---                                              one digit more; all of them
+--     row_before                               rows compare as arrays do
 use mathlib.Core.Path.{◌≡◌, refl, sym, ap, ap₂, ◌∙◌}
 use mathlib.Core.Bool.{Bool, true, false, cond}
-use mathlib.Core.List.{List, [], ◌∷◌, ◌++◌}
+use mathlib.Core.List.{List, [], ◌∷◌, ◌++◌, append-nil}
 use mathlib.Core.Logic.{by_cases}
 use Prim.Native.Nat.{ℕ, zero, suc, ◌+◌, ◌*◌, ◌-◌, ◌/◌, ◌%◌, ◌^◌, ◌<◌, ◌≤◌}
 use native.Mathlib.Decide.{dec_lt}
-use native.Mathlib.Nat.{le_of_lt, add_assoc, add-mul, add-zero, mul_assoc, one-mul, zero-add}
-use native.Mathlib.Numerals.{add-one}
+use native.Mathlib.Nat.{le_of_lt, add_assoc, add-mul, add-zero, add-suc, mul_assoc, one-mul, zero-add}
 use native.Mathlib.Omega.{arith}
 use borrow.Author.Rules.{elem_Fits}
-use borrow.Author.Tests.{lt-ltb, le-ltb}
+use borrow.Author.Tests.{lt-ltb, le-ltb, eq-eqb, ne_eqb}
 use denote.Array.{Array}
 use denote.Laws.{Is}
 use denote.Plain.{UInt}
 use lib.Arith.{digits_lt}
 use lib.Dec.{ltb, eqb}
-use lib.ListN.{length, get_or, set, take, drop, length-append, length-drop}
+use lib.ListN.{length, get_or, set, take, drop, length-drop}
 use lib.Pow.{pow-add, shl_exact, shr-shr, high, low, field, mod-mod-pow}
-use lib.Seq.{get_or-drop, set_split, set-get_or, take-suc, take_all}
+use lib.Seq.{get_or-drop, set_split, set-get_or}
 use mir.Syntax.{w64}
-use mir.Val.{Val, bool_byte}
+use mir.Val.{Val}
+use Rattle.std.specs.Ordering.{nat_cmp, is_lt, is_some_and}
+use Rattle.std.specs.declared.option.Option.TheVariants.{Some}
+use Rattle.std.specs.Cmp.Lexicographic.{slice_partial_cmp}
+use Rattle.std.specs.List.{filter, range_with_len}
 use Rattle.laws.specs.Sets.{below, keep}
 use Rattle.laws.proofs.Booleans.{cond_false}
-use Rattle.laws.proofs.Sets.{keep_agrees, keep_append, keep_few, below_lt, below_length}
+use Rattle.laws.proofs.Sets.{keep_agrees, keep_append, below_lt}
 use Rattle.draft_pairs.specs.TokenSets.{holds, with, members}
 use Rattle.draft_pairs.specs.Pairs.{pair, number_in, set_in}
 use Rattle.draft_pairs.proofs.TokenSets.{number_pair, set_pair, pair_parts, with_bound}
@@ -90,10 +92,6 @@ module _ (row : List ℕ) (long : length row ≡ 5) (k : ℕ) (h : k < 5) where
 
   rest_below : ((i : ℕ) → get_or row i 0 < 2 ^ 64) → value_from 0 (drop (suc k) row) < 2 ^ (64 * (4 - k))
   rest_below small = rw rest_length at (value_below (drop (suc k) row) (λ i. rw get_or-drop (small (suc k + i))))
-
--- a higher part decides, whatever is below it
-lower : (P u v x y : ℕ) → x < P → u < v → u * P + x < v * P + y
-lower P u v x y h g = omega (arith, digits_lt {q = u} {m = v} {r = x} {c = P} g h)
 
 added : (U w d P z : ℕ) → (U + (w + d)) * P + z ≡ (U + w) * P + z + d * P
 added U w d P z = let e : U + (w + d) ≡ U + w + d = omega arith in omega (arith, ap (λ n. n * P) e, add-mul (U + w) d P)
@@ -185,62 +183,68 @@ module _ {row : List ℕ} (p : Digits row) where
           ∙ sym (pair_more number tokens (2 ^ t))
           ∙ ap (pair number) (sym (with_clear t tokens clear))
 
--- ---- the tokens of a set, counted
+-- ---- the tokens of a set, below a bound
+range_last : (a n : ℕ) → range_with_len a (suc n) ≡ range_with_len a n ++ ((a + n) ∷ [])
+range_last a zero = ap (λ k. k ∷ []) (sym (add-zero a))
+range_last a (suc n) =
+    let e : a + 1 + n ≡ a + suc n = omega arith in
+    ap (λ l. a ∷ l) (range_last (a + 1) n ∙ ap (λ k. range_with_len (a + 1) n ++ (k ∷ [])) e)
+
+range_below : (n : ℕ) → range_with_len 0 n ≡ below n
+range_below zero = refl
+range_below (suc n) = range_last 0 n ∙ ap₂ (λ l k. l ++ (k ∷ [])) (range_below n) (zero-add n)
+
 module _ (f : ℕ → Bool) where
-  pub count_more : (t : ℕ) → length (keep f (below (t + 1))) ≡ length (keep f (below t)) + bool_byte (f t)
-  count_more t =
-      ap (λ n. length (keep f (below n))) (add-one t)
-      ∙ ap length (keep_append f (below t) (t ∷ []))
-      ∙ length-append (keep f (below t)) (keep f (t ∷ []))
-      ∙ ap (λ n. length (keep f (below t)) + n) (one (f t))
-    where
-      one : (b : Bool) → length (cond b (t ∷ []) []) ≡ bool_byte b
-      one true = refl
-      one false = refl
+  filtered : (l : List ℕ) → filter f l ≡ keep f l
+  filtered [] = refl
+  filtered (t ∷ l) = ap (λ k. cond (f t) (t ∷ k) k) (filtered l)
 
-  pub count_few : (t : ℕ) → length (keep f (below t)) ≤ t
-  count_few t = omega (arith, keep_few f (below t), below_length t)
-
-  count_beyond : (m n : ℕ) → ((t : ℕ) → f t ≡ true → t < m) → length (keep f (below (m + n))) ≡ length (keep f (below m))
-  count_beyond m zero h = ap (λ k. length (keep f (below k))) (add-zero m)
-  count_beyond m (suc n) h =
-      let e : m + suc n ≡ m + n + 1 = omega arith in
-      ap (λ k. length (keep f (below k))) e ∙ count_more (m + n) ∙ none (f (m + n)) refl ∙ count_beyond m n h
+  kept_beyond : (m n : ℕ) → ((t : ℕ) → f t ≡ true → t < m) → keep f (below (m + n)) ≡ keep f (below m)
+  kept_beyond m zero h = ap (λ k. keep f (below k)) (add-zero m)
+  kept_beyond m (suc n) h =
+      let kept = keep f (below (m + n)) in
+      ap (λ k. keep f (below k)) (add-suc m n) ∙ keep_append f (below (m + n)) ((m + n) ∷ []) ∙ ap (λ l. kept ++ l) (none (f (m + n)) refl)
+      ∙ append-nil kept ∙ kept_beyond m n h
     where
-      none : (b : Bool) → f (m + n) ≡ b → length (keep f (below (m + n))) + bool_byte b ≡ length (keep f (below (m + n)))
+      none : (b : Bool) → f (m + n) ≡ b → cond b ((m + n) ∷ []) [] ≡ []
       none true g = absurd (let l = h (m + n) g in omega arith)
-      none false g = omega arith
+      none false g = refl
 
-pub count_members : (set tokens : ℕ) → tokens ≤ 256 → ((t : ℕ) → holds set t ≡ true → t < tokens) → length (keep (λ t. holds set t) (below tokens)) ≡ length (members set)
+pub members_below : (set tokens : ℕ) → tokens ≤ 256 → ((t : ℕ) → holds set t ≡ true → t < tokens) → filter (holds set) (range_with_len 0 tokens) ≡ members set
 unfolding members
-count_members set tokens h bound =
+members_below set tokens h bound =
     let e : tokens + (256 - tokens) ≡ 256 = omega arith in
-    sym (ap (λ n. length (keep (λ t. holds set t) (below n))) (sym e) ∙ count_beyond (λ t. holds set t) tokens (256 - tokens) bound)
+    filtered (holds set) (range_with_len 0 tokens) ∙ ap (keep (holds set)) (range_below tokens)
+    ∙ sym (kept_beyond (holds set) tokens (256 - tokens) bound) ∙ ap (λ n. keep (holds set) (below n)) e
 
 pub members_set : (k : ℕ) → members (set_in k) ≡ members k
 unfolding members set_in
 members_set k = keep_agrees (λ t. holds (k % 2 ^ 256) t) (λ t. holds k t) (below 256) (λ t m. holds_low 256 k t (below_lt 256 t m))
 
 -- ---- rows compared
--- rows that agree below digit k, the first the lower there
-apart : {a b : List ℕ} → Digits a → Digits b → (k : ℕ) → k < 5 → take k a ≡ take k b → get_or a k 0 < get_or b k 0 → row_value a < row_value b
-apart {a} {b} p q k h same less =
-    rw (row_digit a p.long k h, row_digit b q.long k h, ap (value_from 0) same)
-    (lower (2 ^ (64 * (4 - k))) (value_from 0 (take k b) * 2 ^ 64 + get_or a k 0) (value_from 0 (take k b) * 2 ^ 64 + get_or b k 0) (value_from 0 (drop (suc k) a)) (value_from 0 (drop (suc k) b))
-    (rest_below a p.long k h p.small)
-    (omega arith))
+-- a higher part decides, whatever is below it
+lower : (u v : ℕ) (a b : List ℕ) → u < v → length a ≡ length b → ((i : ℕ) → get_or a i 0 < 2 ^ 64) → value_from u a < value_from v b
+lower u v a b h long small =
+    let P = 2 ^ (64 * length a) in
+    let g : u * P + value_from 0 a < v * P + value_from 0 b = omega (arith, digits_lt {q = u} {m = v} {r = value_from 0 a} {c = P} h (value_below a small)) in
+    rw (value_high u a, value_high v b, ← long) g
 
-module _ {a b : List ℕ} (p : Digits a) (q : Digits b) where
-  pub agree_apart : (k : ℕ) → k < 5 → take k a ≡ take k b → (get_or a k 0 ≡ get_or b k 0 → ⊥) → ltb (get_or a k 0) (get_or b k 0) ≡ ltb (row_value a) (row_value b)
-  agree_apart k h same differ =
-      let x = get_or a k 0 in
-      let y = get_or b k 0 in
-      by_cases (dec_lt x y)
-      (λ l. lt-ltb x y l ∙ sym (lt-ltb (row_value a) (row_value b) (apart p q k h same l)))
-      (λ g. le-ltb x y (omega arith) ∙ sym (le-ltb (row_value a) (row_value b) (le_of_lt (apart q p k h (sym same) (omega arith)))))
+-- the first digits that differ decide
+compared : (v : ℕ) (a b : List ℕ) → length a ≡ length b → ((i : ℕ) → get_or a i 0 < 2 ^ 64) → ((i : ℕ) → get_or b i 0 < 2 ^ 64) →
+    is_some_and is_lt (slice_partial_cmp (λ x y. Some (nat_cmp x y)) a b) ≡ ltb (value_from v a) (value_from v b)
+unfolding value_from
+compared v [] [] long p q = sym (le-ltb v v (omega arith))
+compared v [] (y ∷ b) long p q = absurd (omega arith)
+compared v (x ∷ a) [] long p q = absurd (omega arith)
+compared v (x ∷ a) (y ∷ b) long p q =
+    let same : length a ≡ length b = omega arith in
+    let u = v * 2 ^ 64 + x in
+    let w = v * 2 ^ 64 + y in
+    by_cases (dec_lt x y)
+    (λ l. rw (lt-ltb x y l) (sym (lt-ltb (value_from u a) (value_from w b) (lower u w a b (omega arith) same (λ i. p (suc i))))))
+    (λ g. by_cases (dec_lt y x)
+    (λ l. rw (le-ltb x y (omega arith), ne_eqb x y (omega arith)) (sym (le-ltb (value_from u a) (value_from w b) (le_of_lt (lower w u b a (omega arith) (sym same) (λ i. q (suc i)))))))
+    (λ n. let e : x ≡ y = omega arith in rw (e, le-ltb y y (omega arith), eq-eqb y y refl) (compared w a b same (λ i. p (suc i)) (λ i. q (suc i)))))
 
-  pub agree_more : (k : ℕ) → k < 5 → take k a ≡ take k b → get_or a k 0 ≡ get_or b k 0 → take (k + 1) a ≡ take (k + 1) b
-  agree_more k h same e = rw (add-one, take-suc a k 0 (rw p.long h), take-suc b k 0 (rw q.long h)) (ap₂ (λ l w. l ++ (w ∷ [])) same e)
-
-  pub agree_all : take 5 a ≡ take 5 b → a ≡ b
-  agree_all same = sym (take_all 5 a (omega (arith, p.long))) ∙ same ∙ take_all 5 b (omega (arith, q.long))
+pub row_before : {a b : List ℕ} → Digits a → Digits b → is_some_and is_lt (slice_partial_cmp (λ x y. Some (nat_cmp x y)) a b) ≡ ltb (row_value a) (row_value b)
+row_before {a} {b} p q = compared 0 a b (p.long ∙ sym q.long) p.small q.small

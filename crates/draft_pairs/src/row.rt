@@ -11,9 +11,7 @@ pub type Row = [u64; 5];
 pub fn row_of(number: usize) -> Row
     ensures { row_value result ≡ pair number 0 }
 {
-    let mut row = [0u64; 5];
-    row[0] = number as u64;
-    row
+    [number as u64, 0, 0, 0, 0]
 }
 
 // The number of a pair.
@@ -24,12 +22,11 @@ pub fn number_of(row: Row) -> usize
 }
 
 // Another number under the same set.
-pub fn renumbered(row: Row, number: usize) -> Row
+pub fn renumbered(mut row: Row, number: usize) -> Row
     ensures { row_value result ≡ pair number (set_in (row_value row)) }
 {
-    let mut result = row;
-    result[0] = number as u64;
-    result
+    row[0] = number as u64;
+    row
 }
 
 // Whether a token is in a pair's set.
@@ -42,33 +39,22 @@ pub fn has_token(row: Row, token: usize) -> bool
 }
 
 // The pair with a token added to its set.
-pub fn with_token(row: Row, token: usize) -> Row
+pub fn with_token(mut row: Row, token: usize) -> Row
     requires { token < 256 }
     ensures { row_value result ≡ pair (number_in (row_value row)) (with token (set_in (row_value row))) }
 {
     if has_token(row, token) {
         return row;
     }
-    let mut result = row;
-    let at = 4 - token / 64;
-    result[at] = row[at] + (1 << (token % 64));
-    result
+    row[4 - token / 64] += 1 << (token % 64);
+    row
 }
 
 // Whether a pair stands before another.
 pub fn is_before(a: Row, b: Row) -> bool
     ensures { result ≡ ltb (row_value a) (row_value b) }
 {
-    let mut k = 0;
-    while k < 5 {
-        let x = a[k];
-        let y = b[k];
-        if x != y {
-            return x < y;
-        }
-        k += 1;
-    }
-    false
+    a < b
 }
 
 // How many tokens a pair's set has, all of them below `tokens`.
@@ -78,11 +64,5 @@ pub fn token_count(row: Row, tokens: usize) -> usize
     ensures value { result ≡ length (members (set_in (row_value row))) }
     ensures upper_bound { result ≤ tokens }
 {
-    let mut n = 0;
-    let mut t = 0;
-    while t < tokens {
-        n += has_token(row, t) as usize;
-        t += 1;
-    }
-    n
+    (0..tokens).filter(|t| has_token(row, *t)).count()
 }

@@ -5,3 +5,4 @@ pub mod Led
 pub mod Exact
 pub mod Limits
 pub mod Unchanged
+pub mod Reply

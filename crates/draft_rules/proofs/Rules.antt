@@ -12,7 +12,7 @@ use Rattle.words.specs.Word.{words, word_at}
 use Rattle.words.proofs.Words.{words_length}
 use Rattle.format.specs.Format.{is_rule, rule_of}
 use Rattle.format.specs.Decode.{sizes}
-use Rattle.check_verdicts.specs.declared.Verdict.TheVariants.{Accepted}
+use Rattle.check_verdicts.specs.Verdict.{Accepted}
 use Rattle.check_faults.proofs.Accepted.{rules_formed}
 use Rattle.check_score.proofs.Lawful.{accepted_faultless}
 use Rattle.encoding.specs.Encode.{rule_word}

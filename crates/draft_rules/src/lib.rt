@@ -12,49 +12,35 @@ ghost use Rattle.draft_plain.specs.Plain.{member_rules};
 ghost use Rattle.encoding.specs.Encode.{rule_word};
 ghost use Rattle.bits.specs.Put.{put};
 ghost use Rattle.draft_format.specs.DraftFile.{decode_draft};
-ghost use Rattle.draft_gathering.specs.Gathered.{Gathered, sets_in};
+ghost use Rattle.draft_gathering.specs.Gathered.{sets_in};
 ghost use Rattle.draft_rules.specs.SetRules.{set_rules};
 
-use draft_gathering::Counts;
+use draft_gathering::Source;
 use draft_pairs::Row;
-use draft_table::Table;
 
 // Copies the words of the rules.
-pub fn put_rules(plain: &mut [u8], draft: &[u8], table: &Table, sets: &Table, n: Counts)
-    requires gathered { Gathered draft.now n table.now sets.now }
-    requires draft_in_bounds { 4 * (2 + n.pairs + length (decode_draft draft.now).rules) ≤ length plain.old }
-    ensures { plain.new ≡ put (2 + n.pairs) (map rule_word (decode_draft draft.now).rules) plain.old }
+pub fn put_rules(plain: &mut [u8], source: Source)
+    requires draft_in_bounds { 4 * (2 + source.n.pairs + length (decode_draft source.draft.now).rules) ≤ length plain.old }
+    ensures { plain.new ≡ put (2 + source.entry.n.pairs) (map rule_word (decode_draft source.entry.draft.now).rules) plain.old }
 {
+    let Source { draft, n, .. } = source;
     let from = 2 + n.agents + n.procedures;
-    let rules = n.words - from;
-    let mut k = 0;
-    while k < rules {
-        let w = words::word_at(draft, from + k);
-        bits::put_word(plain, 2 + n.pairs + k, w);
-        k += 1;
+    for k in 0..n.words - from {
+        bits::put_word(plain, 2 + n.pairs + k, words::word_at(draft, from + k));
     }
 }
 
 // Writes the words of the rules from the members of the asked sets, from a word on, and says which word comes next.
-pub fn put_members(
-    plain: &mut [u8],
-    from: usize,
-    draft: &[u8],
-    table: &Table,
-    sets: &Table,
-    n: Counts,
-) -> usize
-    requires gathered { Gathered draft.now n table.now sets.now }
-    requires draft_in_bounds { 4 * (from + length (member_rules n.tokens (sets_in draft.now))) ≤ length plain.old }
+pub fn put_members(plain: &mut [u8], from: usize, source: Source) -> usize
+    requires draft_in_bounds { 4 * (from + length (member_rules source.n.tokens (sets_in source.draft.now))) ≤ length plain.old }
     requires plain_len_bound { length plain.old ≤ most_bytes }
-    ensures plain_after { plain.new ≡ put from (map rule_word (member_rules n.tokens (sets_in draft.now))) plain.old }
-    ensures value { result ≡ from + length (member_rules n.tokens (sets_in draft.now)) }
+    ensures plain_after { plain.new ≡ put from (map rule_word (member_rules source.entry.n.tokens (sets_in source.entry.draft.now))) plain.old }
+    ensures value { result ≡ from + length (member_rules source.entry.n.tokens (sets_in source.entry.draft.now)) }
 {
+    let Source { sets, n, .. } = source;
     let mut at = from;
-    let mut k = 0;
-    while k < n.sets {
-        at = put_set(plain, at, sets[k], n.tokens, n.tokens + k);
-        k += 1;
+    for (k, set) in sets[..n.sets].iter().enumerate() {
+        at = put_set(plain, at, *set, n.tokens, n.tokens + k);
     }
     at
 }
@@ -70,13 +56,9 @@ fn put_set(plain: &mut [u8], from: usize, set: Row, tokens: usize, conclusion: u
     ensures value { result ≡ from + length (members (set_in (row_value set))) }
 {
     let mut at = from;
-    let mut t = 0;
-    while t < tokens {
-        let token = t;
-        t += 1;
+    for token in 0..tokens {
         if draft_pairs::has_token(set, token) {
-            let w = encoding::member_word(conclusion, token);
-            bits::put_word(plain, at, w);
+            bits::put_word(plain, at, encoding::member_word(conclusion, token));
             at += 1;
         }
     }

@@ -3,24 +3,25 @@
 --     placed_present, placed_absent         what stands at its place tells whether it is there
 --     placed_insert                         a number that is not there is inserted at its place
 --     placed_keep                           what is below a bound stands before the bound's place, the others after it
---     Between, between_all, between_none    a place that is looked for: between all entries, between none
 -- and over tables:
 --     keys_length, keys_at                  how many pairs are in use, and which
---     between_higher, between_lower         a place that is looked for, above or below the pair in the middle
---     room_none, room_more                  room made from the last pair on, no pair moved or one more
---     room_keys                             the pairs in use once a row is put where room was made
+--     rows_parted, rows_placed              in rising order the rows below a number come first, and then the others
+--     RoomMade, room_made, room_keys        the pairs in use once a row is put where room was made
 --     entered_present, entered_full, entered_new     what entering a pair leaves
 use mathlib.Core.Path.{◌≡◌, refl, sym, ap, ap₂, subst, ◌∙◌}
 use mathlib.Core.Bool.{Bool, true, false, not}
-use mathlib.Core.List.{List, [], ◌∷◌, ◌++◌, Memᴰ}
+use mathlib.Core.List.{List, [], ◌∷◌, ◌++◌, map, Memᴰ}
 use mathlib.Core.Logic.{◌⊎◌, ⊎_elim, by_cases}
-use Prim.Native.Nat.{ℕ, zero, suc, ◌+◌, ◌<◌, ◌≤◌}
-use native.Mathlib.Decide.{dec_lt, ℕ_discrete}
+use Prim.Native.Nat.{ℕ, zero, suc, ◌+◌, ◌-◌, ◌<◌, ◌≤◌}
+use native.Mathlib.Decide.{dec_lt}
 use native.Mathlib.Nat.{not-suc-le-zero, le_of_suc-le-suc}
 use native.Mathlib.Numerals.{add-one}
 use native.Mathlib.Omega.{arith}
-use borrow.Author.Tests.{lt-ltb, le-ltb, ne_eqb}
+use borrow.Author.Tests.{ltb-true, ltb-false, lt-ltb, le-ltb, ne_eqb}
 use lib.Dec.{ltb}
+use Rattle.std.specs.Prelude.{Some, None}
+use Rattle.std.specs.List.{CopiedTo, SameBelow, SameFrom}
+use Rattle.std.specs.List.Sorted.{IsPartitionedBy, IsPartitionPoint}
 use lib.ListN.{length, take, drop, get_or, set, length-map, length-set}
 use lib.Seq.{length-take-le, take-nil, drop-nil, get_or-take, get_or-set_same, get_or-set_other, ext_get_or}
 use Rattle.laws.specs.Sets.{keep}
@@ -29,7 +30,7 @@ use Rattle.laws.proofs.Lists.{entry_member, map_at}
 use Rattle.draft_pairs.specs.Pairs.{insert, index_of}
 use Rattle.draft_pairs.proofs.Rising.{index_below, index_at, insert_present, insert_longer}
 use Rattle.draft_pairs.specs.Rows.{row_value}
-use Rattle.draft_table.specs.Tables.{keys, Placed, Entered, RoomMade}
+use Rattle.draft_table.specs.Tables.{keys, Placed, Entered}
 
 rising_next : {k : ℕ} {l : List ℕ} → Rising (k ∷ l) → (j : ℕ) → j < length l → k < get_or l j 0
 rising_next one j h = absurd (not-suc-le-zero h)
@@ -111,48 +112,37 @@ module _ (count : ℕ) (table : List (List ℕ)) (few : count ≤ length table) 
   keys_at j h =
       map_at row_value (take count table) j [] 0 (omega (arith, length-take-le count table few)) ∙ ap row_value (get_or-take count table j [] h)
 
--- what stands below `low` is below the number, what stands from `high` on is not
-pub record Between (l : List ℕ) (key low high : ℕ) : Type 0 where
-  pub lower : (j : ℕ) → j < low → get_or l j 0 < key
-  pub upper : (j : ℕ) → high ≤ j → j < length l → key ≤ get_or l j 0
+-- the rows below a number stand before the others
+module _ (rows : List (List ℕ)) (key : ℕ) where
+  value_at : (j : ℕ) (d : List ℕ) → j < length rows → get_or (map row_value rows) j 0 ≡ row_value (get_or rows j d)
+  value_at j d h = map_at row_value rows j d 0 h
 
-pub between_all : (l : List ℕ) (key high : ℕ) → length l ≤ high → Between l key 0 high
-between_all l key high h = record { lower = λ j b. absurd (not-suc-le-zero b); upper = λ j g b. absurd (omega arith) }
+  pub rows_parted : Rising (map row_value rows) → IsPartitionedBy (λ row. ltb (row_value row) key) rows
+  rows_parted r i j d h b t =
+      lt-ltb (row_value (get_or rows i d)) key
+      (omega (arith, value_at i d (omega arith), value_at j d b, rising_upto r i j h (rw length-map b), ltb-true (row_value (get_or rows j d)) key t))
 
-module _ (count : ℕ) (table : List (List ℕ)) (few : count ≤ length table) {key low high : ℕ} (r : Rising (keys count table)) (w : Between (keys count table) key low high) (middle : ℕ) (h : middle < count) where
-  here : get_or (keys count table) middle 0 ≡ row_value (get_or table middle [])
-  here = keys_at count table few middle h
+  pub rows_placed : {at : ℕ} → at ≤ length rows → IsPartitionPoint (λ row. ltb (row_value row) key ≡ true) (λ row. ltb (row_value row) key ≡ false) rows at → Placed (map row_value rows) key at
+  rows_placed {at} h p = record {
+    within = rw length-map h;
+    lower = λ j l. omega (arith, value_at j [] (omega arith), ltb-true (row_value (get_or rows j [])) key (p.0 j [] (omega arith) l));
+    upper = λ j g b. let l : j < length rows = rw length-map at b in omega (arith, value_at j [] l, ltb-false (row_value (get_or rows j [])) key (p.1 j [] g l));
+  }
 
-  pub between_higher : row_value (get_or table middle []) < key → Between (keys count table) key (middle + 1) high
-  between_higher lt = record { lower = λ j b. omega (arith, here, rising_upto r j middle (omega arith) (omega (arith, keys_length count table few))); upper = w.upper }
+-- the pairs from a place on stand one place further
+pub record RoomMade (count at : ℕ) (before after : List (List ℕ)) : Type 0 where
+  pub long : length after ≡ length before
+  pub below : (k : ℕ) → k < at → get_or after k [] ≡ get_or before k []
+  pub above : (k : ℕ) → at ≤ k → k < count → get_or after (k + 1) [] ≡ get_or before k []
 
-  pub between_lower : key ≤ row_value (get_or table middle []) → Between (keys count table) key low middle
-  between_lower le = record { lower = w.lower; upper = λ j g b. omega (arith, here, rising_upto r middle j g b) }
-
-pub between_none : {l : List ℕ} {key low high : ℕ} → Between l key low high → low ≡ high → high ≤ length l → Placed l key low
-between_none w e h = record { within = omega arith; lower = w.lower; upper = λ j g b. w.upper j (omega arith) b }
-
-pub room_none : {count at : ℕ} (table : List (List ℕ)) → count ≤ at → RoomMade count at table table
-room_none table h = record { long = refl; below = λ j b. refl; above = λ j g b. absurd (omega arith) }
-
-module _ {count : ℕ} {before room : List (List ℕ)} (few : count < length before) (k j : ℕ) (next : k ≡ j + 1) (h : k ≤ count) (made : RoomMade count k before room) where
-  abbrev moved : List (List ℕ)
-  moved = set room k (get_or room j [])
-
-  pub room_more : RoomMade count j before moved
-  room_more =
-      record {
-        long = length-set room k _ ∙ made.long;
-        below = λ i b. get_or-set_other room k i (get_or room j []) [] (λ e. omega arith) ∙ made.below i (omega arith);
-        above = λ i le b. go i le b (ℕ_discrete k (i + 1));
-      }
-    where
-      go : (i : ℕ) → j ≤ i → i < count → Dec (k ≡ i + 1) → get_or moved (i + 1) [] ≡ get_or before i []
-      go i le b (yes e) =
-          let same : j ≡ i = omega arith in
-          ap (λ n. get_or moved n []) (sym e) ∙ get_or-set_same room k (get_or room j []) [] (omega (arith, made.long)) ∙ made.below j (omega arith)
-          ∙ ap (λ n. get_or before n []) same
-      go i le b (no n) = get_or-set_other room k (i + 1) (get_or room j []) [] (λ e. n (sym e)) ∙ made.above i (omega arith) b
+room_made : {count at : ℕ} {before after : List (List ℕ)} → at ≤ count → length after ≡ length before →
+    CopiedTo before after at (at + 1) (count - at) × SameBelow before after (at + 1) × SameFrom before after (at + 1 + (count - at)) → RoomMade count at before after
+room_made {count} {at} {before} {after} h long copied =
+    record {
+      long = long;
+      below = λ k b. copied.1 k [] (omega arith);
+      above = λ k g b. let e : at + (k + 1 - (at + 1)) ≡ k = omega arith in copied.0 (k + 1) [] (omega arith) (omega arith) ∙ ap (λ i. get_or before i []) e;
+    }
 
 -- a list that is another with one entry more
 spliced : {A : Type 0} (s l : List A) (v d : A) (at : ℕ) → at ≤ length l → length s ≡ suc (length l) → ((j : ℕ) → j < at → get_or s j d ≡ get_or l j d) →
@@ -184,25 +174,24 @@ module _ {count at : ℕ} {before room : List (List ℕ)} (row : List ℕ) (few 
       ∙ sym (placed_insert p new)
 
 module _ {key count at : ℕ} {table : List (List ℕ)} (few : count ≤ length table) (most : count ≤ 1088) where
-  pub entered_present : Rising (keys count table) → Placed (keys count table) key at → at < count → row_value (get_or table at []) ≤ key → Entered key count table table count
+  pub entered_present : Rising (keys count table) → Placed (keys count table) key at → at < count → row_value (get_or table at []) ≤ key → Entered key count table table (Some count)
   entered_present r p h le =
       let many = keys_length count table few in
       let there = placed_present p (omega arith) (omega (arith, keys_at count table few at h)) in
       let same = insert_present key (keys count table) r there in
-      record { long = refl; most = omega arith; room = λ g. (sym same, sym (ap length same ∙ many)); full = λ g. absurd (omega arith) }
+      record { long = refl; room = (most, sym same, sym (ap length same ∙ many)); full = tt }
 
-pub entered_full : {key count r : ℕ} {table : List (List ℕ)} → count ≡ 1088 → r ≡ 1089 → (Memᴰ key (keys count table) → ⊥) → Entered key count table table r
-entered_full e d new = record { long = refl; most = omega arith; room = λ g. absurd (omega arith); full = λ g. (e, new) }
+pub entered_full : {key count : ℕ} {table : List (List ℕ)} → count ≡ 1088 → (Memᴰ key (keys count table) → ⊥) → Entered key count table table None
+entered_full e new = record { long = refl; room = tt; full = (e, new) }
 
-pub entered_new : {count at r : ℕ} {before room : List (List ℕ)} (row : List ℕ) → count < length before → count < 1088 → r ≡ count + 1 → RoomMade count at before room →
-    Placed (keys count before) (row_value row) at → (Memᴰ (row_value row) (keys count before) → ⊥) → Entered (row_value row) count before (set room at row) r
-entered_new {count} {at} {r} {before} {room} row few most next made p new =
+pub entered_new : {count at : ℕ} {before : List (List ℕ)} (room : List (List ℕ)) (row : List ℕ) → count < length before → count < 1088 → length room ≡ length before →
+    CopiedTo before room at (at + 1) (count - at) × SameBelow before room (at + 1) × SameFrom before room (at + 1 + (count - at)) →
+    Placed (keys count before) (row_value row) at → (Memᴰ (row_value row) (keys count before) → ⊥) → Entered (row_value row) count before (set room at row) (Some (count + 1))
+entered_new {count} {at} {before} room row few most long copied p new =
+    let many = keys_length count before (omega arith) in
+    let made = room_made (omega (arith, p.within, many)) long copied in
     record {
-      long = length-set room at row ∙ made.long;
-      most = omega arith;
-      room = λ g. (
-        ap (λ n. keys n (set room at row)) next ∙ room_keys row few made p new,
-        omega (arith, insert_longer (row_value row) (keys count before) new, keys_length count before (omega arith)),
-      );
-      full = λ g. absurd (omega arith);
+      long = length-set room at row ∙ long;
+      room = (omega arith, room_keys row few made p new, omega (arith, insert_longer (row_value row) (keys count before) new, many));
+      full = tt;
     }

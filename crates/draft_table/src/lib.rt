@@ -5,7 +5,7 @@ ghost use Rattle.std.specs.Prelude.{◌≡◌, ◌+◌, ◌<◌, ◌≤◌, leng
 ghost use Rattle.laws.specs.Rising.{Rising};
 ghost use Rattle.draft_pairs.specs.Pairs.{most_pairs};
 ghost use Rattle.draft_pairs.specs.Rows.{row_value};
-ghost use Rattle.draft_table.specs.Tables.{keys, Placed, Entered, RoomMade};
+ghost use Rattle.draft_table.specs.Tables.{keys, Placed, Entered};
 
 use draft_pairs::Row;
 
@@ -25,51 +25,26 @@ pub fn place(table: &Table, count: usize, row: Row) -> usize
     requires rising { Rising (keys count table.now) }
     ensures { Placed (keys count table.now) (row_value row) result }
 {
-    let mut low = 0;
-    let mut high = count;
-    while low < high {
-        let middle = low + (high - low) / 2;
-        if draft_pairs::is_before(table[middle], row) {
-            low = middle + 1;
-        } else {
-            high = middle;
-        }
-    }
-    low
+    table[..count].partition_point(|r| draft_pairs::is_before(*r, row))
 }
 
-// Enters a pair, and says how many there then are: as many as before where it is there already, and more than the most
-// where there is no room.
-pub fn enter(table: &mut Table, count: usize, row: Row) -> usize
+// Enters a pair, and says how many there then are: as many as before where it is there already, and none where there is
+// no room.
+pub fn enter(table: &mut Table, count: usize, row: Row) -> Option<usize>
     requires table_len { length table.old ≡ most_pairs }
     requires count_le_most_pairs { count ≤ most_pairs }
     requires rising { Rising (keys count table.old) }
     ensures { Entered (row_value row) count table.old table.new result }
 {
     let at = place(table, count, row);
-    if at < count {
-        if !draft_pairs::is_before(row, table[at]) {
-            return count;
-        }
+    // Not by `==`: it was tried, and from it nothing follows of the two rows' values.
+    if at < count && !draft_pairs::is_before(row, table[at]) {
+        return Some(count);
     }
     if count == MOST {
-        return MOST + 1;
+        return None;
     }
-    make_room(table, count, at);
+    table.copy_within(at..count, at + 1);
     table[at] = row;
-    count + 1
-}
-
-// Moves the pairs from a place on one place up.
-fn make_room(table: &mut Table, count: usize, at: usize)
-    requires table_len { length table.old ≡ most_pairs }
-    requires count_lt_most_pairs { count < most_pairs }
-    requires at_le_count { at ≤ count }
-    ensures { RoomMade count at table.old table.new }
-{
-    let mut k = count;
-    while at < k {
-        table[k] = table[k - 1];
-        k -= 1;
-    }
+    Some(count + 1)
 }

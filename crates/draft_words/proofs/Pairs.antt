@@ -1,17 +1,21 @@
 -- The pairs of a draft that is gathered, by their places in the table, and what the plain score has of each.
 --     agents_few, agents_many, procedures_many     how many agents and procedures it has
 --     agent_of_pair               the plain agent of a pair
---     agent_entry, agent_here     of the first entries, each is a pair of an agent; its agent is the plain score's
+--     agent_rows, agent_known     the first entries, one for each agent
+--     agent_entry, agent_here     each is a pair of an agent; its agent is the plain score's
 --     AgentFits, agent_fits       what such an agent names fits into a word
---     root_entry, root_here       of the others, each is a pair of a procedure; its root is the plain score's
+--     procedure_rows, root_few    the others in use, one for each procedure
+--     root_entry, root_here       each is a pair of a procedure; its root is the plain score's
 --     root_fits                   where such a root stands fits into a word
+--     agents_all, roots_all       after the last entry, no agent and no root is left
 --     RootKnown, root_known       the procedure and its root are the draft's, and what the root leads to stands among the agents
 --     roots_same                  the roots of a draft are those of its bytes read as a score
 use mathlib.Core.Path.{◌≡◌, refl, sym, ap, subst⁻¹, ◌∙◌}
 use mathlib.Core.List.{List, [], ◌++◌, Memᴰ}
 use Prim.Native.Nat.{ℕ, ◌+◌, ◌-◌, ◌<◌, ◌≤◌}
 use native.Mathlib.Omega.{arith}
-use lib.ListN.{length, get_or, length-append, length-map, get_or-append}
+use lib.ListN.{length, get_or, take, drop, length-append, length-drop, length-map, get_or-append}
+use Rattle.std.proofs.lemmas.List.{length-take-le, get_or-take, get_or-drop}
 use lib.Seq.{get_or-append-add}
 use Rattle.laws.proofs.Lists.{entry_member, map_at}
 use Rattle.laws.proofs.Sets.{Within}
@@ -87,40 +91,70 @@ module _ {s : List ℕ} {n : Counts} {table sets : List (List ℕ)} (g : Gathere
   unfolding plain_of
   procedures_many = omega (arith, pairs_many, roots_length draft)
 
-  module _ (k : ℕ) (h : k < n.copied) where
-    at_agent : row_value (get_or table k []) ≡ get_or (agents_in s) k 0
-    at_agent = entry k (omega (arith, pairs_many)) ∙ get_or-append (agents_in s) (procedures_in s) 0 k (omega (arith, g.copied_are))
+  abbrev agent_rows : List (List ℕ)
+  agent_rows = take n.copied table
 
-    pub agent_entry : Memᴰ (row_value (get_or table k [])) (agents_in s)
-    agent_entry = subst⁻¹ (λ v. Memᴰ v (agents_in s)) at_agent (entry_member (agents_in s) k (omega (arith, g.copied_are)))
+  agent_rows_many : length agent_rows ≡ n.copied
+  agent_rows_many = length-take-le n.copied table (omega (arith, enough, pairs_many))
 
-    pub agent_here : agent_of_pair draft (row_value (get_or table k [])) ≡ agent_at (plain_of draft) k
+  module _ (k : ℕ) (h : k < length agent_rows) where
+    at_agent : row_value (get_or agent_rows k []) ≡ get_or (agents_in s) k 0
+    at_agent =
+        ap row_value (get_or-take n.copied table k [] (omega (arith, agent_rows_many)))
+        ∙ entry k (omega (arith, agent_rows_many, pairs_many))
+        ∙ get_or-append (agents_in s) (procedures_in s) 0 k (omega (arith, agent_rows_many, g.copied_are))
+
+    pub agent_entry : Memᴰ (row_value (get_or agent_rows k [])) (agents_in s)
+    agent_entry = subst⁻¹ (λ v. Memᴰ v (agents_in s)) at_agent (entry_member (agents_in s) k (omega (arith, agent_rows_many, g.copied_are)))
+
+    pub agent_here : agent_of_pair draft (row_value (get_or agent_rows k [])) ≡ agent_at (plain_of draft) k
     unfolding plain_of
-    agent_here = ap (agent_of_pair draft) at_agent ∙ sym (map_at (agent_of_pair draft) (agents_in s) k 0 Skip (omega (arith, g.copied_are)))
+    agent_here = ap (agent_of_pair draft) at_agent ∙ sym (map_at (agent_of_pair draft) (agents_in s) k 0 Skip (omega (arith, agent_rows_many, g.copied_are)))
+
+    pub agent_known : k < length (plain_of draft).agents
+    agent_known = omega (arith, agent_rows_many, agents_many)
 
     pub agent_fits : AgentFits (agent_at (plain_of draft) k)
     agent_fits = record {
       tokens = λ t m. omega (arith, lawful.tokens_known k t m, lawful.tokens_at_most);
-      parts = λ b m. omega (arith, lawful.parts_lower k b m, agents_few);
+      parts = λ b m. omega (arith, lawful.parts_lower k b m, agents_few, agent_rows_many);
       procedures = λ p m. omega (arith, lawful.procedures_known k p m, lawful.roots_at_most);
     }
 
-  module _ (k : ℕ) (h : n.copied + k < n.pairs) where
-    at_procedure : row_value (get_or table (n.copied + k) []) ≡ get_or (procedures_in s) k 0
+  abbrev procedure_rows : List (List ℕ)
+  procedure_rows = take (n.pairs - n.copied) (drop n.copied table)
+
+  procedure_rows_many : n.copied + length procedure_rows ≡ n.pairs
+  procedure_rows_many =
+      omega (arith, length-take-le (n.pairs - n.copied) (drop n.copied table) (omega (arith, length-drop n.copied table, enough)), pairs_many)
+
+  module _ (k : ℕ) (h : k < length procedure_rows) where
+    at_procedure : row_value (get_or procedure_rows k []) ≡ get_or (procedures_in s) k 0
     at_procedure =
-        entry (n.copied + k) h
+        ap row_value (get_or-take (n.pairs - n.copied) (drop n.copied table) k [] (omega (arith, procedure_rows_many)))
+        ∙ ap row_value (get_or-drop n.copied table k [])
+        ∙ entry (n.copied + k) (omega (arith, procedure_rows_many))
         ∙ ap (λ c. get_or (agents_in s ++ procedures_in s) (c + k) 0) g.copied_are
         ∙ get_or-append-add (agents_in s) (procedures_in s) k 0
 
-    pub root_entry : Memᴰ (row_value (get_or table (n.copied + k) [])) (procedures_in s)
-    root_entry = subst⁻¹ (λ v. Memᴰ v (procedures_in s)) at_procedure (entry_member (procedures_in s) k (omega (arith, pairs_many)))
+    pub root_entry : Memᴰ (row_value (get_or procedure_rows k [])) (procedures_in s)
+    root_entry = subst⁻¹ (λ v. Memᴰ v (procedures_in s)) at_procedure (entry_member (procedures_in s) k (omega (arith, procedure_rows_many, pairs_many)))
 
-    pub root_here : root_by draft (row_value (get_or table (n.copied + k) [])) ≡ plain.root_of (plain_of draft) k
+    pub root_here : root_by draft (row_value (get_or procedure_rows k [])) ≡ plain.root_of (plain_of draft) k
     unfolding plain_of
-    root_here = ap (root_by draft) at_procedure ∙ sym (root_at draft k (omega (arith, pairs_many)))
+    root_here = ap (root_by draft) at_procedure ∙ sym (root_at draft k (omega (arith, procedure_rows_many, pairs_many)))
+
+    pub root_few : k < length (plain_of draft).roots
+    root_few = omega (arith, procedure_rows_many, procedures_many)
 
     pub root_fits : plain.root_of (plain_of draft) k < 1024
-    root_fits = omega (arith, lawful.roots_known k (omega (arith, procedures_many)), lawful.agents_at_most)
+    root_fits = omega (arith, lawful.roots_known k root_few, lawful.agents_at_most)
+
+  pub agents_all : (k : ℕ) → length agent_rows ≤ k → length (plain_of draft).agents ≤ k
+  agents_all k h = omega (arith, agent_rows_many, agents_many)
+
+  pub roots_all : (k : ℕ) → length procedure_rows ≤ k → length (plain_of draft).roots ≤ k
+  roots_all k h = omega (arith, procedure_rows_many, procedures_many)
 
   places_few : PlacesFit (places draft)
   unfolding plain_of

@@ -4,7 +4,7 @@
 -- of pairs that are gathered:
 --     table_rises, sets-rise                the two tables rise
 --     agent_stands, procedure_stands        the place of a pair in the table tells where it stands among its kind
---     Listed                                an agent of a pair among those of agents, by its form
+--     Listed, listing                       an agent of a pair among those of agents, by its form
 --     tokens-few                            the tokens are few
 --     part_known, part_stands               a body or half of it is the draft's, and what that leads to stands among the agents
 --     call_few, call_stands                 a procedure that it calls is the draft's, and stands among the procedures
@@ -139,6 +139,10 @@ pub record Listed (s : List ℕ) (n : Counts) (table sets : List (List ℕ)) (k 
   pub gathered : Gathered s n table sets
   pub listed : Memᴰ k (agents_in s)
   pub written : draft_agent_at (decode_draft s) (number_in k) ≡ Plain a
+
+pub listing : {s : List ℕ} {n : Counts} {table sets : List (List ℕ)} {k : ℕ} {a : Agent} →
+    Gathered s n table sets → Memᴰ k (agents_in s) → draft_agent_at (decode_draft s) (number_in k) ≡ Plain a → Listed s n table sets k a
+listing g m e = record { gathered = g; listed = m; written = e }
 
 module _ {s : List ℕ} {n : Counts} {table sets : List (List ℕ)} {k : ℕ} {a : Agent} (h : Listed s n table sets k a) where
   law : LawfulDraft (decode_draft s)

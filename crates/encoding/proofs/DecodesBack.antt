@@ -26,7 +26,7 @@ use Rattle.words.specs.Word.{field, words, word_at}
 use Rattle.format.specs.declared.Sizes.{Sizes}
 use Rattle.format.specs.Format.{sizes_of, agent_in, agent_of, is_rule, rule_of}
 use Rattle.format.specs.Decode.{sizes, decode}
-use Rattle.check_verdicts.specs.declared.Verdict.TheVariants.{Accepted, Head}
+use Rattle.check_verdicts.specs.Verdict.{Accepted, Head}
 use Rattle.check_verdicts.specs.Verdicts.{or_else}
 use Rattle.check_words.specs.WordFaults.{at_word, agent_verdict}
 use Rattle.check_faults.specs.Faults.{length_verdict, head_verdict, count_verdict, word_verdict, first_fault}
@@ -208,10 +208,7 @@ module _ (sc : Score) where
     -- ---- no procedure lies on a circle
 
     uncircled : circle_from sc 0 said.procedures ≡ Accepted
-    uncircled =
-        lowest_none sc said.procedures
-        (record { within = omega arith; below = free; here = λ lt. absurd (omega arith) })
-        (omega arith)
+    uncircled = lowest_none sc (record { all = free })
       where
         free : (p : ℕ) → p < said.procedures → circular sc p ≡ false
         free p lt = go (circular sc p) refl

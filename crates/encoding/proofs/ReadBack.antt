@@ -15,7 +15,7 @@ use Rattle.words.specs.Word.{field, words, word_at}
 use Rattle.format.specs.Format.{is_word, decode_agent, agent_of, rule_of}
 use Rattle.format.specs.Decode.{sizes, decode}
 use Rattle.format.proofs.Decode.{decode_agents, decode_roots}
-use Rattle.check_verdicts.specs.declared.Verdict.TheVariants.{Accepted, Head}
+use Rattle.check_verdicts.specs.Verdict.{Accepted, Head}
 use Rattle.check_verdicts.specs.Verdicts.{or_else}
 use Rattle.check_verdicts.proofs.Verdicts.{refused, both_accepted}
 use Rattle.check_faults.specs.Faults.{length_verdict, head_verdict, count_verdict, word_verdict, first_fault}

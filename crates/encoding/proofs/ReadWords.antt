@@ -9,21 +9,20 @@ use native.Mathlib.Nat.{zero-add}
 use native.Mathlib.Omega.{arith}
 use borrow.Author.Tests.{eqb-true, eqb-false}
 use lib.Dec.{eqb}
+use Rattle.std.proofs.Common.{Option, Some, None}
 use Rattle.laws.proofs.Booleans.{and_both, by_test}
 use Rattle.tcc.specs.declared.Agent.{Agent}
 use Rattle.tcc.specs.declared.Agent.TheVariants.{Skip, Abort, Tell, Parallel, When, Next, Unless, Call}
 use Rattle.words.specs.Word.{field, kind}
 use Rattle.words.proofs.Field.{field_below}
-use Rattle.format.specs.declared.Decoded.{Decoded}
-use Rattle.format.specs.declared.Decoded.TheVariants.{Whole, Malformed}
 use Rattle.format.specs.Format.{clear, is_word, sizes_of, formed, decode_agent, is_fact, is_rule, rule_of}
 use Rattle.format.proofs.Rule.{rule_fact, rule_plain, premises_fact, premises_plain}
 use Rattle.encoding.specs.Encode.{head_word, ports_word, agent_word, root_word, rule_word, premise_bits}
 use Rattle.encoding.proofs.Fields.{field_join, field_low}
 
-abbrev Says : ℕ → Decoded → Type 0
-Says w (Whole a) = agent_word a ≡ w
-Says w Malformed = Unit {0}
+abbrev Says : ℕ → Option Agent → Type 0
+Says w (Some a) = agent_word a ≡ w
+Says w None = Unit {0}
 
 module _ (w : ℕ) (small : w < 2 ^ 32) where
   kind_sum : w ≡ kind w * 2 ^ 28 + field w 0 28
@@ -72,7 +71,7 @@ module _ (w : ℕ) (small : w < 2 ^ 32) where
       (λ n. by_test (Says w) (eqb (kind w) 10) (says_formed 10 6 (Call (field w 0 6)) (omega arith) sym)
       (λ n. tt)))))))
 
-  pub agent_again : (a : Agent) → decode_agent w ≡ Whole a → agent_word a ≡ w
+  pub agent_again : (a : Agent) → decode_agent w ≡ Some a → agent_word a ≡ w
   agent_again a e = subst (Says w) e agent_says
 
   pub rule_again : is_rule w ≡ true → rule_word (rule_of w) ≡ w

@@ -15,13 +15,13 @@ use native.Mathlib.Omega.{arith}
 use borrow.Author.Tests.{lt-ltb, le-ltb, lt-leb, eq-eqb, ne_eqb}
 use lib.Dec.{leb}
 use lib.ListN.{length, get_or}
+use Rattle.std.proofs.Common.{Option, Some, None}
 use Rattle.laws.specs.Sets.{any}
 use Rattle.laws.proofs.Sets.{Within}
+use Rattle.tcc.specs.declared.Agent.{Agent}
 use Rattle.format.specs.declared.Sizes.{Sizes}
-use Rattle.format.specs.declared.Decoded.{Decoded}
-use Rattle.format.specs.declared.Decoded.TheVariants.{Whole, Malformed}
 use Rattle.format.specs.Format.{decode_agent, agent_in}
-use Rattle.check_verdicts.specs.declared.Verdict.TheVariants.{Accepted, Form}
+use Rattle.check_verdicts.specs.Verdict.{Accepted, Form}
 use Rattle.check_verdicts.proofs.Verdicts.{refused, both_accepted}
 use Rattle.check_words.specs.WordFaults.{at_word, agent_verdict, root_verdict, rule_verdict}
 use Rattle.check_faults.specs.Faults.{length_verdict, count_verdict, word_verdict, first_fault}
@@ -57,9 +57,9 @@ pub at_formed : (h : Sizes) (k : ℕ) (formed : Bool) (tokens : List ℕ) (astra
 at_formed h k true tokens astray e = refl
 at_formed h k false tokens astray e = refused (Form k) (λ z. omega arith) e
 
-pub agent_formed : (h : Sizes) (i : ℕ) (d : Decoded) → agent_verdict h i d ≡ Accepted → d ≡ Whole (agent_in d)
-agent_formed h i (Whole a) e = refl
-agent_formed h i Malformed e = refused (Form (2 + i)) (λ z. omega arith) e
+pub agent_formed : (h : Sizes) (i : ℕ) (d : Option Agent) → agent_verdict h i d ≡ Accepted → d ≡ Some (agent_in d)
+agent_formed h i (Some a) e = refl
+agent_formed h i None e = refused (Form (2 + i)) (λ z. omega arith) e
 
 pub faultless_append : (h : Sizes) (k : ℕ) (ws vs : List ℕ) → first_fault h k ws ≡ Accepted → first_fault h (k + length ws) vs ≡ Accepted → first_fault h k (ws ++ vs) ≡ Accepted
 unfolding first_fault

@@ -20,6 +20,7 @@ use Prim.Native.Nat.{ℕ, ◌+◌, ◌-◌, ◌*◌, ◌^◌, ◌<◌, ◌≤◌
 use native.Mathlib.Omega.{arith}
 use borrow.Author.Tests.{eq-eqb, ne_eqb}
 use lib.Pow.{pow_mono, pow_pos, pow-add}
+use Rattle.std.proofs.Common.{Some}
 use Rattle.laws.proofs.Booleans.{both_and}
 use Rattle.laws.proofs.Sets.{Within}
 use Rattle.tcc.specs.Closure.{Rule}
@@ -27,7 +28,6 @@ use Rattle.tcc.specs.Score.{tokens_of, parts_of, procedures_of}
 use Rattle.tcc.specs.declared.Agent.{Agent}
 use Rattle.tcc.specs.declared.Agent.TheVariants.{Skip, Abort, Tell, Parallel, When, Next, Unless, Call}
 use Rattle.words.specs.Word.{field, kind}
-use Rattle.format.specs.declared.Decoded.TheVariants.{Whole}
 use Rattle.format.specs.Format.{clear, is_word, sizes_of, decode_agent, is_fact, is_rule, rule_of}
 use Rattle.format.proofs.Rule.{rule_fact, rule_plain, premises_fact, premises_plain}
 use Rattle.encoding.specs.Encode.{head_word, ports_word, agent_word, root_word, rule_word, RuleFormed}
@@ -102,14 +102,14 @@ pub record AgentFits (a : Agent) : Type 0 where
   pub procedures : Within (λ p. p < 64) (procedures_of a)
 
 pub record AgentRead (a : Agent) : Type 0 where
-  pub decoded : decode_agent (agent_word a) ≡ Whole a
+  pub decoded : decode_agent (agent_word a) ≡ Some a
   pub small : agent_word a < 2 ^ 32
 
-skip_decoded : decode_agent (agent_word Skip) ≡ Whole Skip
+skip_decoded : decode_agent (agent_word Skip) ≡ Some Skip
 unfolding decode_agent field
 skip_decoded = refl
 
-abort_decoded : decode_agent (agent_word Abort) ≡ Whole Abort
+abort_decoded : decode_agent (agent_word Abort) ≡ Some Abort
 unfolding decode_agent field
 abort_decoded = refl
 

@@ -2,7 +2,6 @@
 #![tactic(auto)]
 
 ghost use Rattle.std.specs.Prelude.{◌≡◌, cond, ◌||◌, not, eqb};
-ghost use Rattle.instant_prepared.specs.Prepared.{PreparedFrom};
 ghost use Rattle.format.specs.Decode.{sizes, decode};
 ghost use Rattle.lent.specs.Lengths.{state_bytes, map_bytes, scratch_bytes};
 ghost use Rattle.lent.specs.States.{running_word, aborted_word};
@@ -24,7 +23,6 @@ pub fn wrong_length(state: usize, input: usize, store: usize, output: usize, scr
 
 // Writes an answer: the next state with its number, the store and what goes to the ports.
 pub fn hand_over(
-    score: &[u8],
     prepared: &Prepared,
     outcome: Outcome,
     number: u32,
@@ -32,19 +30,17 @@ pub fn hand_over(
     store: &mut [u8],
     output: &mut [u8],
 )
-    requires prepared_from { PreparedFrom score.now prepared.now }
     requires buffers { Buffers state.old store.old output.old }
-    requires known { Known (sizes score.now) outcome }
-    ensures { HandedOver (decode score.now) outcome number state.new store.new output.new }
+    requires known { Known (sizes prepared.now.bytes.now) outcome }
+    ensures { HandedOver (decode prepared.now.bytes.now) outcome number state.new store.new output.new }
 {
-    let head = instant_prepared::sizes(prepared);
     let held = outcome.store;
     let awake = outcome.awake;
     let first = first_word(outcome.status);
-    lent::write_state(state, first, head.agents, awake, number);
-    lent_maps::write_map(store, head.tokens, held);
-    let out = instant_state::sent(score, outcome.status, held);
-    lent_maps::write_map(output, head.tokens, out);
+    lent::write_state(state, first, prepared.agents(), awake, number);
+    lent_maps::write_map(store, prepared.tokens(), held);
+    let out = instant_state::sent(prepared.bytes, outcome.status, held);
+    lent_maps::write_map(output, prepared.tokens(), out);
 }
 
 // Word 0 of the state after an answer.

@@ -9,15 +9,17 @@ use Prim.Native.Nat.{ℕ, suc, ◌≤◌}
 use borrow.Author.Tests.{eq-eqb, ne_eqb}
 use lib.Dec.{eqb}
 use lib.ListN.{length}
+use Rattle.std.proofs.Common.{Ok, Err}
 use Rattle.laws.proofs.Booleans.{cond_true, cond_false, neither}
 use Rattle.tcc.specs.Score.{Score}
 use Rattle.tcc.specs.Instant.{Answer, output, answer, after}
 use Rattle.format.specs.Decode.{sizes, decode}
-use Rattle.check_verdicts.specs.declared.Verdict.{Verdict}
+use Rattle.check_verdicts.specs.declared.Fault.{Fault}
 use Rattle.check_verdicts.specs.Verdicts.{verdict_number}
 use Rattle.check_score.specs.Check.{verdict}
-use Rattle.check_score.proofs.Stages.{passed}
-use Rattle.check_score.proofs.Stages as stages
+use Rattle.refusals.specs.Refused.{Turned, Lengths, State, Input, Last}
+use Rattle.refusals.proofs.ByVerdict.{passed}
+use Rattle.refusals.proofs.ByVerdict as stages
 use Rattle.flags.specs.Flags.{set_of}
 use Rattle.instant_engine.specs.declared.Outcome.{Outcome}
 use Rattle.instant_engine.specs.Outcome.{outcome_of}
@@ -29,39 +31,41 @@ use Rattle.lent_maps.specs.Maps.{tokens_in, map_of}
 use Rattle.instant_state.proofs.Inside.{Inside}
 use Rattle.instant_buffers.specs.HandedOver.{HandedOver}
 use Rattle.instant_buffers.proofs.AnswerBytes.{state_written_lem, store_written, output_written}
-use Rattle.instant_call.specs.declared.Reply.TheVariants.{Score as Turned, Lengths, State, Input, Last, Settled}
 use Rattle.instant_call.specs.InstantCall.{Lent, Exit, length_fault, token_fault, kept, answered, exit, lent, played}
 
 module _ (score given : List ℕ) (l : Lent) where
-  pub turned : {v : Verdict} {n : ℕ} → n ≡ verdict_number v → v ≡ verdict score → (n ≡ 0 → ⊥) → kept l (Turned v) ≡ exit score given l
+  abbrev down : Fault → Exit
+  down f = kept l (Turned f)
+
+  pub turned : {f : Fault} → Err f ≡ verdict score → kept l (Turned f) ≡ exit score given l
   unfolding exit
-  turned number_is is not-zero = stages.turned score number_is is (λ v. kept l (Turned v)) _ not-zero
+  turned is = stages.turned down _ (verdict score) is
 
   module _ (accepted : verdict_number (verdict score) ≡ 0) where
     pub lengths : length_fault given l ≡ true → kept l Lengths ≡ exit score given l
     unfolding exit
-    lengths e = passed score accepted _ (cond_true _ e refl)
+    lengths e = passed down (verdict score) accepted (cond_true _ e refl)
 
     module _ (long : length_fault given l ≡ false) where
       pub state : state_fault (sizes score).agents l.state ≡ true → kept l State ≡ exit score given l
       unfolding exit
-      state e = passed score accepted _ (cond_false _ long (cond_true _ e refl))
+      state e = passed down (verdict score) accepted (cond_false _ long (cond_true _ e refl))
 
       module _ (lawful : state_fault (sizes score).agents l.state ≡ false) where
         pub input : token_fault score given ≡ true → kept l Input ≡ exit score given l
         unfolding exit
-        input e = passed score accepted _ (cond_false _ long (cond_false _ lawful (cond_true _ e refl)))
+        input e = passed down (verdict score) accepted (cond_false _ long (cond_false _ lawful (cond_true _ e refl)))
 
         module _ (known : token_fault score given ≡ false) where
-          pub last : {n : ℕ} → n ≡ instant_number l.state → n ≡ last_number → kept l Last ≡ exit score given l
+          pub last : {n : ℕ} → n ≡ instant_number l.state → n ≡ last_number → kept l (Last 0) ≡ exit score given l
           unfolding exit
-          last is at = passed score accepted _ (cond_false _ long (cond_false _ lawful (cond_false _ known (cond_true _ (eq-eqb (instant_number l.state) last_number (sym is ∙ at)) refl))))
+          last is at = passed down (verdict score) accepted (cond_false _ long (cond_false _ lawful (cond_false _ known (cond_true _ (eq-eqb (instant_number l.state) last_number (sym is ∙ at)) refl))))
 
           pub settled : {n : ℕ} → n ≡ instant_number l.state → (n ≡ last_number → ⊥) → (a : Answer) → a ≡ answer (decode score) (state_of l.state) (tokens_in given) →
               state_fault (sizes score).agents (as_bytes (after a)) ≡ false → answered (decode score) l.state a ≡ exit score given l
           unfolding exit
           settled is below a e n =
-              passed score accepted _ (cond_false _ long (cond_false _ lawful (cond_false _ known (cond_false _ (ne_eqb (instant_number l.state) last_number (λ at. below (is ∙ at))) (settles ∙ ap (played score l) e)))))
+              passed down (verdict score) accepted (cond_false _ long (cond_false _ lawful (cond_false _ known (cond_false _ (ne_eqb (instant_number l.state) last_number (λ at. below (is ∙ at))) (settles ∙ ap (played score l) e)))))
             where
               settles : answered (decode score) l.state a ≡ played score l a
               settles = cond_false _ n refl
@@ -69,9 +73,9 @@ module _ (score given : List ℕ) (l : Lent) where
 -- what handing an outcome over leaves, where it is an answer's
 module _ (sc : Score) (a : Answer) (few : length sc.agents ≤ 1024) (known : sc.tokens ≤ 256) (inside : Inside sc a) {o : Outcome} (is : o ≡ outcome_of a)
     {number : ℕ} {state store sent : List ℕ} (h : HandedOver sc o number state store sent) where
-  pub handed : (before : List ℕ) → number ≡ suc (instant_number before) → {scratch : List ℕ} → scratch ≡ no_scratch → {e : Exit} → answered sc before a ≡ e → ◌≡◌ {A = Exit} (record { lent = lent state store sent scratch; reply = Settled o.status o.count }) e
+  pub handed : (before : List ℕ) → number ≡ suc (instant_number before) → {scratch : List ℕ} → scratch ≡ no_scratch → {e : Exit} → answered sc before a ≡ e → ◌≡◌ {A = Exit} (record { lent = lent state store sent scratch; reply = Ok (record { status = o.status; count = o.count }) }) e
   unfolding outcome_of
-  handed before next z leaves = (λ i. record { lent = lent (state_is i) (store_is i) (sent_is i) (z i); reply = Settled (is i).status (is i).count }) ∙ leaves
+  handed before next z leaves = (λ i. record { lent = lent (state_is i) (store_is i) (sent_is i) (z i); reply = Ok (record { status = (is i).status; count = (is i).count }) }) ∙ leaves
     where
       state_is : state ≡ next_bytes before a
       state_is =

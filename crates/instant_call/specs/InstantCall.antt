@@ -8,18 +8,18 @@
 --     answered         the buffers of an answered instant
 --     exit             the whole call
 --     InstantCall      its contract
-use Rattle.std.specs.Prelude.{◌≡◌, Bool, cond, not, ◌||◌, List, ℕ, eqb, leb, length}
+use Rattle.std.specs.Prelude.{◌≡◌, Bool, cond, not, ◌||◌, List, ℕ, eqb, leb, length, Ok}
 use Rattle.laws.specs.Sets.{any}
 use Rattle.tcc.specs.Score.{Score}
 use Rattle.tcc.specs.Instant.{Answer, count, output, answer, after}
 use Rattle.format.specs.Decode.{sizes, decode}
-use Rattle.check_verdicts.specs.Verdicts.{verdict_number}
+use Rattle.check_verdicts.specs.Verdicts.{by_verdict}
 use Rattle.check_score.specs.Check.{verdict}
 use Rattle.lent.specs.Lengths.{state_bytes, map_bytes, scratch_bytes, no_scratch}
 use Rattle.lent.specs.States.{state_fault, state_of, as_bytes, next_bytes, at_last}
 use Rattle.lent_maps.specs.Maps.{tokens_in, map_of}
-use Rattle.instant_call.specs.declared.Reply.{Reply}
-use Rattle.instant_call.specs.declared.Reply.TheVariants.{Score as Turned, Lengths, State, Input, Last, Next, Settled}
+use Rattle.refusals.specs.Refused.{Turned, Lengths, State, Input, Next, Last}
+use Rattle.instant_call.specs.Reply.{Reply}
 
 pub record Lent : Type 0 where
   pub state : List ℕ
@@ -52,7 +52,7 @@ abbrev pub answered : Score → List ℕ → Answer → Exit
 answered sc state a =
     record {
       lent = lent (next_bytes state a) (map_of a.store) (map_of (output sc a.status a.store)) no_scratch;
-      reply = Settled a.status (count a);
+      reply = Ok (record { status = a.status; count = count a });
     }
 
 -- once 1 to 10 and 18 have been tried
@@ -61,11 +61,11 @@ played score l a = cond (state_fault (sizes score).agents (as_bytes (after a))) 
 
 unfoldable pub exit : List ℕ → List ℕ → Lent → Exit
 exit score input l =
-    cond (not (eqb (verdict_number (verdict score)) 0)) (kept l (Turned (verdict score)))
+    by_verdict (verdict score) (λ f. kept l (Turned f))
     (cond (length_fault input l) (kept l Lengths)
     (cond (state_fault (sizes score).agents l.state) (kept l State)
     (cond (token_fault score input) (kept l Input)
-    (cond (at_last l.state) (kept l Last)
+    (cond (at_last l.state) (kept l (Last 0))
     (played score l (answer (decode score) (state_of l.state) (tokens_in input)))))))
 
 -- the call's contract: over the score, the input, the buffers before and after, and the reply

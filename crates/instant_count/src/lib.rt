@@ -13,11 +13,9 @@ pub fn count_and_clear(scratch: &mut [u8], used: usize) -> usize
     ensures { Tallied scratch.old scratch.new result }
 {
     let mut count: u16 = 0;
-    let mut k = 0;
-    while k < used {
-        count += u8::count_ones(scratch[k]) as u16;
-        scratch[k] = 0;
-        k += 1;
+    for byte in &mut scratch[..used] {
+        count += byte.count_ones() as u16;
+        *byte = 0;
     }
-    count as usize
+    usize::from(count)
 }

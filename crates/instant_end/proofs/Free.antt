@@ -2,24 +2,19 @@
 --     Free                     none is one from agent i on
 --     free_none, free_more     no agent is looked at; agent i is
 --     free_all                 all are: none aborts
---     other                    what a `match` that names abort says of the other agents, which it knows by the number of their kind
 use mathlib.Core.Path.{◌≡◌, refl, sym, ap, subst, subst⁻¹}
 use mathlib.Core.Bool.{Bool, true, false}
-use mathlib.Core.List.{List, [], ◌∷◌, Memᴰ}
+use mathlib.Core.List.{List, Memᴰ}
 use Prim.Native.Nat.{ℕ, ◌+◌, ◌≤◌}
 use native.Mathlib.Decide.{ℕ_discrete}
 use native.Mathlib.Omega.{arith}
-use types.Run.{OneOf, miss}
-use denote.Enum.Declared.{tag_of}
 use lib.ListN.{length, get_or-eq_default}
 use Rattle.laws.specs.Sets.{any}
 use Rattle.laws.proofs.Booleans.{true_is_false}
 use Rattle.laws.proofs.Sets.{any_some}
 use Rattle.tcc.specs.Score.{Score, agent_at}
 use Rattle.tcc.specs.Instant.{is_abort}
-use Rattle.tcc.specs.declared.Agent.{Agent}
-use Rattle.tcc.specs.declared.Agent.TheVariants.{Skip, Abort, Tell, Parallel, When, Next, Unless, Call}
-use Rattle.tcc.specs.contracts.Agent.{the_type}
+use Rattle.tcc.specs.declared.Agent.TheVariants.{Skip}
 
 module _ (sc : Score) (live : List ℕ) where
   abbrev pub Free : ℕ → Type 0
@@ -41,16 +36,3 @@ module _ (sc : Score) (live : List ℕ) where
       go : (b : Bool) → any (λ j. is_abort (agent_at sc j)) live ≡ b → false ≡ any (λ j. is_abort (agent_at sc j)) live
       go true e = let x = any_some (λ j. is_abort (agent_at sc j)) live e in absurd (true_is_false x.2 (free x.0 (omega arith) x.1))
       go false e = sym e
-
-abbrev others : List ℕ
-others = 0 ∷ 2 ∷ 3 ∷ 4 ∷ 5 ∷ 6 ∷ 7 ∷ []
-
-pub other : (a : Agent) → OneOf others (tag_of the_type a) → false ≡ is_abort a
-other Skip h = refl
-other Abort h = absurd (miss others 1 tt h)
-other (Tell t) h = refl
-other (Parallel a b) h = refl
-other (When t b) h = refl
-other (Next b) h = refl
-other (Unless t b) h = refl
-other (Call p) h = refl

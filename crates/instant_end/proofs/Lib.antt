@@ -1,5 +1,4 @@
 pub mod Free
-pub mod Spent
 pub mod Reading
 pub mod Reduced
 pub mod Fates

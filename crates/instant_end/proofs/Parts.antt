@@ -6,6 +6,7 @@
 --     parted           all of them are read
 use mathlib.Core.Path.{◌≡◌, refl, sym, ap, subst, ◌∙◌}
 use mathlib.Core.Bool.{Bool, false}
+use Rattle.std.specs.Prelude.{Some}
 use mathlib.Core.List.{List, Memᴰ}
 use mathlib.Core.Logic.{by_cases}
 use Prim.Native.Nat.{ℕ, ◌+◌, ◌*◌, ◌%◌, ◌^◌, ◌<◌, ◌≤◌}
@@ -14,7 +15,6 @@ use native.Mathlib.Omega.{arith}
 use lib.Bits.{bit_or}
 use lib.ListN.{length}
 use Rattle.laws.specs.Sets.{has}
-use Rattle.laws.proofs.Booleans.{true_is_false}
 use Rattle.tcc.specs.Score.{Score, agent_at}
 use Rattle.tcc.specs.Lawful.{Lawful}
 use Rattle.tcc.specs.Instant.{is_abort, leaves, reduced_of}
@@ -66,15 +66,15 @@ module _ (sc : Score) (live held : List ℕ) (k : ℕ) where
             let says = fate_says held (agent_at sc (32 * k + j)) Stays e in
             record { read = read_live says.0; bits = word_unset bit j word p.bits (bit_live sc live held (32 * k + j) known here says.1) }
 
-    pub parted : j ≤ 32 → (j < 32 → length sc.agents ≤ 32 * k + j) → Parted sc live held k awake (record { aborted = false; reduced = word })
+    pub parted : j ≤ 32 → (j < 32 → length sc.agents ≤ 32 * k + j) → Parted sc live held k awake (Some word)
     parted most all = by_cases (dec_lt j 32)
         (λ short. record {
-          aborts = λ e. absurd (true_is_false e refl);
-          read = λ e. read_beyond sc live held p.read (32 * (k + 1)) (all short);
-          reduced = λ e. p.bits ∙ sym (bits_value_beyond bit j 32 most (λ m h. reduced_few sc live held (32 * k + m) (omega (arith, all short))));
+          aborts = tt;
+          read = read_beyond sc live held p.read (32 * (k + 1)) (all short);
+          reduced = p.bits ∙ sym (bits_value_beyond bit j 32 most (λ m h. reduced_few sc live held (32 * k + m) (omega (arith, all short))));
         })
         (λ whole. let e : j ≡ 32 = omega arith in let t : 32 * k + j ≡ 32 * (k + 1) = omega arith in record {
-          aborts = λ x. absurd (true_is_false x refl);
-          read = λ x. subst (λ n. Read sc live held n awake) t p.read;
-          reduced = λ x. p.bits ∙ ap (bits_value bit) e;
+          aborts = tt;
+          read = subst (λ n. Read sc live held n awake) t p.read;
+          reduced = p.bits ∙ ap (bits_value bit) e;
         })

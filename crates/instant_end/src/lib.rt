@@ -1,13 +1,11 @@
 // What an instant comes to, read off its marks: whether it aborts, the agents reduced, in the scratch, and those awake next.
 #![tactic(auto)]
 
-ghost use Rattle.std.specs.Prelude.{◌≡◌, ◌*◌, ◌<◌, length};
+ghost use Rattle.std.specs.Prelude.{◌≡◌, ◌*◌, ◌<◌};
 ghost use Rattle.laws.specs.Sets.{any};
 ghost use Rattle.tcc.specs.Score.{agent_at};
 ghost use Rattle.tcc.specs.Instant.{is_abort, leaves};
 ghost use Rattle.format.specs.Decode.{sizes, decode};
-ghost use Rattle.format.specs.Playable.{Playable};
-ghost use Rattle.instant_prepared.specs.Prepared.{PreparedFrom};
 ghost use Rattle.flags.specs.Flags.{set_of};
 ghost use Rattle.lent.specs.Lengths.{no_scratch};
 ghost use Rattle.instant_end.specs.Ended.{fate_of, flagged, Read, Parted, Ended};
@@ -15,20 +13,6 @@ ghost use Rattle.instant_end.specs.Ended.{fate_of, flagged, Read, Parted, Ended}
 use flags::{Agents, Tokens};
 use instant_prepared::Prepared;
 use tcc::Agent;
-
-// What an instant comes to: whether it aborts; if not, which agents are awake next.
-#[derive(Drop)]
-pub struct Ending {
-    pub aborted: bool,
-    pub awake: Agents,
-}
-
-// What 32 agents come to: whether one aborts; if not, a bit for each that is reduced.
-#[derive(Clone, Copy)]
-struct Part {
-    aborted: bool,
-    reduced: u32,
-}
 
 // What a live agent comes to.
 #[derive(Clone, Copy)]
@@ -38,94 +22,68 @@ enum Fate {
     Stays,
 }
 
-// Reads the live agents once nothing can be added, and leaves a bit in the scratch for each that is reduced.
+// Reads the live agents once nothing can be added, and leaves a bit in the scratch for each that is reduced. Returns the
+// agents awake next; none where one aborts.
 pub fn end_of(
-    s: &[u8],
     prepared: &Prepared,
     live: &Agents,
     held: &Tokens,
     scratch: &mut [u8],
-) -> Ending
-    requires prepared_from { PreparedFrom s.now prepared.now }
-    requires scratch_value { scratch.old ≡ no_scratch }
-    ensures { Ended (decode s.now) (set_of live.now) (set_of held.now) scratch.new result }
+) -> Option<Agents>
+    requires { scratch.old ≡ no_scratch }
+    ensures { Ended (decode prepared.now.bytes.now) (set_of live.now) (set_of held.now) scratch.new result }
 {
-    let head = instant_prepared::sizes(prepared);
     let mut awake = [false; 1024];
-    let mut k = 0;
-    while 32 * k < head.agents {
-        let part = part_of(s, head.agents, live, held, k, &mut awake);
-        if part.aborted {
-            return Ending {
-                aborted: true,
-                awake,
-            };
-        }
-        bits::put_word(scratch, k, part.reduced);
-        k += 1;
+    for k in 0..prepared.agents().div_ceil(32) {
+        let reduced = part_of(prepared, live, held, k, &mut awake)?;
+        bits::put_word(scratch, k, reduced);
     }
-    Ending {
-        aborted: false,
-        awake,
-    }
+    Some(awake)
 }
 
-// Reads the live agents among the 32 from agent 32 k on.
+// Reads the live agents among the 32 from agent 32 k on. Returns a bit for each that is reduced; none where one aborts.
 fn part_of(
-    s: &[u8],
-    agents: usize,
+    prepared: &Prepared,
     live: &Agents,
     held: &Tokens,
     k: usize,
     awake: &mut Agents,
-) -> Part
-    requires agents_value { agents ≡ (sizes s.now).agents }
-    requires playable { Playable s.now }
-    requires k_bound { 32 * k < agents }
-    requires read { Read (decode s.now) (set_of live.now) (set_of held.now) (32 * k) awake.old }
-    ensures { Parted (decode s.now) (set_of live.now) (set_of held.now) k awake.new result }
+) -> Option<u32>
+    requires k_bound { 32 * k < (sizes prepared.now.bytes.now).agents }
+    requires read { Read (decode prepared.now.bytes.now) (set_of live.now) (set_of held.now) (32 * k) awake.old }
+    ensures { Parted (decode prepared.now.bytes.now) (set_of live.now) (set_of held.now) k awake.new result }
 {
+    // A copy, for speed: through the reference its fields are read again at each agent.
+    let score = *prepared;
     let from = 32 * k;
-    let left = agents - from;
-    let few = if left < 32 { left } else { 32 };
+    let few = (score.agents() - from).min(32);
     let mut reduced: u32 = 0;
-    let mut j = 0;
-    while j < few {
+    for j in 0..few {
         if live[from + j] {
-            match fate_of(s, from + j, held, awake) {
-                Fate::Aborts => {
-                    return Part {
-                        aborted: true,
-                        reduced,
-                    };
-                }
-                Fate::Reduced => reduced = reduced | 1 << (j as u32),
+            match fate_of(&score, from + j, held, awake) {
+                Fate::Aborts => return None,
+                Fate::Reduced => reduced |= 1 << j,
                 Fate::Stays => {}
             }
         }
-        j += 1;
     }
-    Part {
-        aborted: false,
-        reduced,
-    }
+    Some(reduced)
 }
 
 // What live agent i comes to; the body that it leaves is awake.
-fn fate_of(s: &[u8], i: usize, held: &Tokens, awake: &mut Agents) -> Fate
-    requires playable { Playable s.now }
-    requires i_bound { i < (sizes s.now).agents }
-    requires awake_len { length awake.old ≡ 1024 }
-    ensures value { result ≡ fate_of (set_of held.now) (agent_at (decode s.now) i) }
-    ensures awake_after { awake.new ≡ flagged (leaves (set_of held.now) (agent_at (decode s.now) i)) awake.old }
+fn fate_of(prepared: &Prepared, i: usize, held: &Tokens, awake: &mut Agents) -> Fate
+    requires { i < (sizes prepared.now.bytes.now).agents }
+    ensures value { result ≡ fate_of (set_of held.now) (agent_at (decode prepared.now.bytes.now) i) }
+    ensures awake_after { awake.new ≡ flagged (leaves (set_of held.now) (agent_at (decode prepared.now.bytes.now) i)) awake.old }
 {
-    match format::agent_at(s, i) {
+    match prepared.agent_at(i) {
         Agent::Abort => Fate::Aborts,
         Agent::When(awaited, _) => {
             if held[awaited] {
-                return Fate::Reduced;
+                Fate::Reduced
+            } else {
+                Fate::Stays
             }
-            Fate::Stays
         }
         Agent::Next(body) => {
             awake[body] = true;
@@ -133,41 +91,34 @@ fn fate_of(s: &[u8], i: usize, held: &Tokens, awake: &mut Agents) -> Fate
         }
         Agent::Unless(token, next) => {
             if held[token] {
-                return Fate::Reduced;
+                Fate::Reduced
+            } else {
+                awake[next] = true;
+                Fate::Stays
             }
-            awake[next] = true;
-            Fate::Stays
         }
         _ => Fate::Reduced,
     }
 }
 
 // Whether a live agent aborts.
-pub fn any_aborts(s: &[u8], prepared: &Prepared, live: &Agents) -> bool
-    requires { PreparedFrom s.now prepared.now }
-    ensures { result ≡ any (λ i. is_abort (agent_at (decode s.now) i)) (set_of live.now) }
+pub fn any_aborts(prepared: &Prepared, live: &Agents) -> bool
+    ensures { result ≡ any (λ i. is_abort (agent_at (decode prepared.now.bytes.now) i)) (set_of live.now) }
 {
-    let head = instant_prepared::sizes(prepared);
-    let mut i = head.agents;
-    while 0 < i {
-        i -= 1;
-        if live[i] {
-            if aborts(s, i) {
-                return true;
-            }
+    // A copy, for speed: through the reference its fields are read again at each agent.
+    let score = *prepared;
+    for i in (0..score.agents()).rev() {
+        if live[i] && aborts(&score, i) {
+            return true;
         }
     }
     false
 }
 
 // Whether agent i aborts.
-fn aborts(s: &[u8], i: usize) -> bool
-    requires playable { Playable s.now }
-    requires i_bound { i < (sizes s.now).agents }
-    ensures { result ≡ is_abort (agent_at (decode s.now) i) }
+fn aborts(prepared: &Prepared, i: usize) -> bool
+    requires { i < (sizes prepared.now.bytes.now).agents }
+    ensures { result ≡ is_abort (agent_at (decode prepared.now.bytes.now) i) }
 {
-    match format::agent_at(s, i) {
-        Agent::Abort => true,
-        _ => false,
-    }
+    matches!(prepared.agent_at(i), Agent::Abort)
 }

@@ -4,7 +4,8 @@
 --     aborted_outcome, aborted_trial     marks with a live abort
 --     quiet_outcome, quiet_trial         marks without
 use mathlib.Core.Path.{◌≡◌, refl, sym, ap, subst, ◌∙◌}
-use mathlib.Core.Bool.{Bool, true, false, cond}
+use mathlib.Core.Bool.{Bool, true, false}
+use mir.Val.{bool_byte}
 use mathlib.Core.List.{List, [], Memᴰ}
 use Prim.Native.Nat.{ℕ}
 use lib.ListN.{length, get_or, replicate, length-replicate}
@@ -49,24 +50,27 @@ module _ (sc : Score) (agents inputs lives : List ℕ) (held : List Bool) (fixed
     quiet : Settled sc lives (set_of held) (instant sc agents inputs)
     quiet = settled_so sc agents inputs lives (set_of held) fixed none
 
-    quiet_status : (b : Bool) → get_or held 0 false ≡ b → cond b 1 0 ≡ (instant sc agents inputs).status
-    quiet_status true e = sym (quiet.clash (flag_member held e))
-    quiet_status false e = sym (quiet.no_clash (λ m. true_is_false (member_flag held m) e))
+    quiet_status : bool_byte (get_or held 0 false) ≡ (instant sc agents inputs).status
+    quiet_status = go (get_or held 0 false) refl
+      where
+        go : (b : Bool) → get_or held 0 false ≡ b → bool_byte b ≡ (instant sc agents inputs).status
+        go true e = sym (quiet.clash (flag_member held e))
+        go false e = sym (quiet.no_clash (λ m. true_is_false (member_flag held m) e))
 
     quiet_store : length held ≡ 256 → held ≡ flags_of 256 (instant sc agents inputs).store
     quiet_store long = flags_settled 256 (instant sc agents inputs).store held long (λ i lt. quiet.same_store i)
 
-    pub quiet_trial : length held ≡ 256 → (b : Bool) → get_or held 0 false ≡ b → trial (cond b 1 0) held ≡ trial_of (instant sc agents inputs)
+    pub quiet_trial : (status : ℕ) → length held ≡ 256 → status ≡ bool_byte (get_or held 0 false) → trial status held ≡ trial_of (instant sc agents inputs)
     unfolding trial_of
-    quiet_trial long b e = ap (λ x. trial x held) (quiet_status b e) ∙ ap (trial (instant sc agents inputs).status) (quiet_store long)
+    quiet_trial status long p = ap (λ x. trial x held) (p ∙ quiet_status) ∙ ap (trial (instant sc agents inputs).status) (quiet_store long)
 
-    pub quiet_outcome : (status count : ℕ) (awake : List Bool) → length held ≡ 256 → status ≡ cond (get_or held 0 false) 1 0 →
+    pub quiet_outcome : (status count : ℕ) (awake : List Bool) → length held ≡ 256 → status ≡ bool_byte (get_or held 0 false) →
         (((instant sc agents inputs).status ≡ 2 → ⊥) → count ≡ length (instant sc agents inputs).reduced) → awake ≡ flags_of 1024 (left_awake sc (set_of held) lives) →
         outcome status count held awake ≡ outcome_of (instant sc agents inputs)
     unfolding outcome_of
     quiet_outcome status count awake long p q r =
         let a = instant sc agents inputs in
-        let p' : status ≡ a.status = p ∙ quiet_status (get_or held 0 false) refl in
+        let p' : status ≡ a.status = p ∙ quiet_status in
         let q' : count ≡ length a.reduced = q quiet.unaborted in
         let s' : held ≡ flags_of 256 a.store = quiet_store long in
         let r' : awake ≡ flags_of 1024 a.awake = r ∙ flags_same 1024 quiet.same_awake in

@@ -2,11 +2,12 @@
 --     aborts_so        marks with a live abort: the instant aborts
 --     settled_so       marks without: it ends as they say
 --     scratch_count    by the one and the other
-use mathlib.Core.Path.{◌≡◌, refl, sym, ap, ◌∙◌}
+use mathlib.Core.Path.{◌≡◌, sym, ap, ◌∙◌}
 use mathlib.Core.Bool.{Bool, true, false}
 use mathlib.Core.List.{List}
 use Prim.Native.Nat.{ℕ}
 use lib.ListN.{length}
+use Rattle.std.specs.Prelude.{None, Some}
 use Rattle.laws.specs.Sets.{any}
 use Rattle.laws.proofs.Booleans.{true_is_false}
 use Rattle.laws.proofs.Sets.{any_some, some_any}
@@ -15,7 +16,7 @@ use Rattle.tcc.specs.Instant.{is_abort, count, aborted_answer, instant}
 use Rattle.tcc.specs.FixedPoint.{Settled}
 use Rattle.tcc.proofs.FixedPoint.{is_abort_lem, aborts, settles}
 use Rattle.instant_engine.specs.Marks.{Fixed}
-use Rattle.instant_engine.specs.ScratchCount.{Counted, ScratchCount}
+use Rattle.instant_engine.specs.ScratchCount.{ScratchCount}
 
 module _ (sc : Score) (agents inputs live held : List ℕ) (fixed : Fixed sc agents inputs live held) where
   abbrev Aborting : Bool
@@ -31,22 +32,19 @@ module _ (sc : Score) (agents inputs live held : List ℕ) (fixed : Fixed sc age
       (λ i m e. true_is_false (some_any (λ j. is_abort (agent_at sc j)) m (ap is_abort e)) (sym none))
 
 pub scratch_count : ScratchCount
-scratch_count sc agents inputs live held marked cleared end number fixed ended tallied = go end.aborted refl
-  where
-    go : (b : Bool) → end.aborted ≡ b → Counted (instant sc agents inputs) marked cleared number
-    go true e =
-        let z = aborts_so sc agents inputs live held fixed (sym e ∙ ended.aborted) in
-        record {
-          bits = λ other. absurd (other (ap (λ a. a.status) z));
-          counted = λ other. absurd (other (ap (λ a. a.status) z));
-          aborted = λ two. ap count z;
-          zero = tallied.cleared;
-        }
-    go false e =
-        let s = settled_so sc agents inputs live held fixed (sym e ∙ ended.aborted) in
-        record {
-          bits = λ other. ended.reduced e ∙ s.same_reduced;
-          counted = λ other. tallied.counted ∙ ap length (ended.reduced e ∙ s.same_reduced);
-          aborted = λ two. absurd (s.unaborted two);
-          zero = tallied.cleared;
-        }
+scratch_count sc agents inputs live held marked cleared None number fixed ended tallied =
+    let z = aborts_so sc agents inputs live held fixed ended.aborted in
+    record {
+      bits = λ other. absurd (other (ap (λ a. a.status) z));
+      counted = λ other. absurd (other (ap (λ a. a.status) z));
+      aborted = λ two. ap count z;
+      zero = tallied.cleared;
+    }
+scratch_count sc agents inputs live held marked cleared (Some awake) number fixed ended tallied =
+    let s = settled_so sc agents inputs live held fixed ended.aborted in
+    record {
+      bits = λ other. ended.reduced ∙ s.same_reduced;
+      counted = λ other. tallied.counted ∙ ap length (ended.reduced ∙ s.same_reduced);
+      aborted = λ two. absurd (s.unaborted two);
+      zero = tallied.cleared;
+    }

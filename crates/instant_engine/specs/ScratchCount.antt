@@ -5,13 +5,12 @@
 --     Counted          the bits set are the agents reduced and their number is the count; at status 2 the count is 0; in
 --                      either case the scratch is then zero
 --     ScratchCount     it is so of every instant
-use Rattle.std.specs.Prelude.{◌≡◌, List, ℕ}
+use Rattle.std.specs.Prelude.{◌≡◌, Bool, List, ℕ, Option}
 use Rattle.tcc.specs.Score.{Score}
 use Rattle.tcc.specs.Instant.{Answer, count, instant}
 use Rattle.lent.specs.Lengths.{no_scratch}
 use Rattle.lent.specs.Scratch.{reduced_in}
 use Rattle.instant_count.specs.Tallied.{Tallied}
-use Rattle.instant_end.specs.declared.Ending.{Ending}
 use Rattle.instant_end.specs.Ended.{Ended}
 use Rattle.instant_engine.specs.Marks.{Fixed}
 
@@ -23,6 +22,6 @@ pub record Counted (a : Answer) (marked cleared : List ℕ) (number : ℕ) : Typ
 
 abbrev pub ScratchCount : Type 0
 ScratchCount =
-    (sc : Score) (agents inputs live held marked cleared : List ℕ) (end : Ending) (number : ℕ) →
+    (sc : Score) (agents inputs live held marked cleared : List ℕ) (end : Option (List Bool)) (number : ℕ) →
     Fixed sc agents inputs live held → Ended sc live held marked end → Tallied marked cleared number →
     Counted (instant sc agents inputs) marked cleared number

@@ -1,42 +1,64 @@
 // What a call works out of an accepted score, once, and hands to each of its instants.
 #![tactic(auto)]
 
-ghost use Rattle.std.specs.Prelude.{◌≡◌, length};
+ghost use Rattle.std.specs.Prelude.{◌≡◌, ◌<◌};
+ghost use Rattle.tcc.specs.Score.{agent_at, root_of};
+ghost use Rattle.format.specs.Decode.{sizes, decode};
 ghost use Rattle.format.specs.Playable.{Playable};
-ghost use Rattle.instant_prepared.specs.Prepared.{prepared_length, sizes_in, PreparedFrom};
 
 use format::Sizes;
+use tcc::Agent;
 
-// How many tokens, agents and procedures the score has.
-pub type Prepared = [u16; 3];
+// A score that an engine may play: its bytes, and how many tokens, agents and procedures they say.
+#[derive(Clone, Copy)]
+pub struct Prepared<'a> {
+    pub bytes: &'a [u8],
+    pub head: Sizes,
+    ghost playable: { Playable bytes.now },
+    ghost sized: { head ≡ sizes bytes.now },
+}
 
 // Works it out.
 pub fn prepare(s: &[u8]) -> Prepared
     requires { Playable s.now }
-    ensures { PreparedFrom s.now result }
+    ensures { result.bytes.now ≡ s.now }
 {
     let head = format::sizes_of(words::word_at(s, 0));
-    [
-        head.tokens as u16,
-        head.agents as u16,
-        head.procedures as u16,
-    ]
+    Prepared { bytes: s, head }
 }
 
-// The sizes of the score.
-pub fn sizes(prepared: &Prepared) -> Sizes
-    requires { length prepared.now ≡ prepared_length }
-    ensures { result ≡ sizes_in prepared.now }
-{
-    Sizes {
-        tokens: wide(prepared[0]),
-        agents: wide(prepared[1]),
-        procedures: wide(prepared[2]),
+impl Prepared<'_> {
+    pub fn tokens(&self) -> usize
+        ensures { result ≡ (sizes self.now.bytes.now).tokens }
+    {
+        self.head.tokens
     }
-}
 
-fn wide(x: u16) -> usize
-    ensures { result ≡ x }
-{
-    x as usize
+    pub fn agents(&self) -> usize
+        ensures { result ≡ (sizes self.now.bytes.now).agents }
+    {
+        self.head.agents
+    }
+
+    pub fn procedures(&self) -> usize
+        ensures { result ≡ (sizes self.now.bytes.now).procedures }
+    {
+        self.head.procedures
+    }
+
+    // Agent i.
+    pub fn agent_at(&self, i: usize) -> Agent
+        requires { i < (sizes self.now.bytes.now).agents }
+        ensures { result ≡ agent_at (decode self.now.bytes.now) i }
+    {
+        format::agent_at(self.bytes, i)
+    }
+
+    // The root agent of procedure p.
+    pub fn root_of(&self, p: usize) -> usize
+        requires { p < (sizes self.now.bytes.now).procedures }
+        ensures { result ≡ root_of (decode self.now.bytes.now) p }
+    {
+        format::root_of(self.bytes, self.agents(), p)
+    }
 }

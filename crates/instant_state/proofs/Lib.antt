@@ -1,3 +1,4 @@
 pub mod Standings
 pub mod Ports
 pub mod Inside
+mod Window

@@ -3,9 +3,8 @@
 
 ghost use Rattle.std.specs.Prelude.{◌≡◌, false, ◌&&◌, not, ◌++◌, ℕ, ◌<◌, ◌≤◌, eqb, leb, length, get_or, drop};
 ghost use Rattle.tcc.specs.Instant.{output, answer};
-ghost use Rattle.instant_prepared.specs.Prepared.{PreparedFrom};
-ghost use Rattle.format.specs.Decode.{decode};
 ghost use Rattle.format.specs.Playable.{Playable};
+ghost use Rattle.format.specs.Decode.{decode};
 ghost use Rattle.flags.specs.Flags.{set_of, flags_of};
 ghost use Rattle.instant_engine.specs.Outcome.{outcome_of};
 ghost use Rattle.lent.specs.Lengths.{unnumbered_bytes, state_bytes, no_scratch};
@@ -35,27 +34,20 @@ pub fn standing_in(state: &[u8]) -> Standing
 
 // The answer from where a score stands: an aborted one stays aborted.
 pub fn answer_from(
-    score: &[u8],
     prepared: &Prepared,
     standing: Standing,
     inputs: Tokens,
     scratch: &mut [u8],
 ) -> Outcome
-    requires prepared_from { PreparedFrom score.now prepared.now }
-    requires scratch_value { scratch.old ≡ no_scratch }
-    ensures value { result ≡ outcome_of (answer (decode score.now) (state_in standing) (set_of inputs)) }
+    requires { scratch.old ≡ no_scratch }
+    ensures value { result ≡ outcome_of (answer (decode prepared.now.bytes.now) (state_in standing) (set_of inputs)) }
     ensures scratch_after { scratch.new ≡ no_scratch }
 {
     let awake = standing.awake;
     if standing.running {
-        instant_engine::play(score, prepared, awake, inputs, scratch)
+        instant_engine::play(prepared, awake, inputs, scratch)
     } else {
-        Outcome {
-            status: 2,
-            count: 0,
-            store: [false; 256],
-            awake: [false; 1024],
-        }
+        instant_engine::ABORTED
     }
 }
 
@@ -118,10 +110,6 @@ fn to_ports(store: Tokens, lowest: usize, highest: usize) -> Tokens
     ensures result_len { length result ≡ 256 }
 {
     let mut out = [false; 256];
-    let mut t = lowest;
-    while t <= highest {
-        out[t] = store[t];
-        t += 1;
-    }
+    out[lowest..=highest].copy_from_slice(&store[lowest..=highest]);
     out
 }

@@ -6,18 +6,18 @@
 --     passing_skipped    a rule passed over
 --     passing_added      a rule whose conclusion is taken up
 --     passing_all        past the last word the pass is done
---     flooded_none, flooded_more     tokens brought in one by one, from 0 on
+--     flooded            the flags below n set, and the others as they were
 use mathlib.Core.Path.{◌≡◌, refl, sym, ap, ◌∙◌}
 use mathlib.Core.Bool.{Bool, true, false, not, ◌&&◌, ◌||◌}
-use mathlib.Core.List.Memᴰ
 use mathlib.Core.List.{List, [], map, Memᴰ}
-use mathlib.Core.Logic.{inl, inr, ⊎_elim, by_cases}
-use Prim.Native.Nat.{ℕ, ◌+◌, ◌≤◌, ◌<◌}
-use native.Mathlib.Nat.{not-suc-le-zero}
+use mathlib.Core.Logic.{inl, inr, by_cases}
+use Prim.Native.Nat.{ℕ, ◌+◌, ◌-◌, ◌≤◌, ◌<◌}
 use native.Mathlib.Numerals.{add-one}
 use native.Mathlib.Decide.{dec_lt}
 use native.Mathlib.Omega.{arith}
-use lib.ListN.{length, get_or, set, drop, length-set, drop_of_length-le}
+use lib.ListN.{length, get_or, set, drop, replicate, length-set, length-append, length-drop, length-replicate, get_or-replicate, drop_of_length-le}
+use Rattle.std.proofs.Common.{◌++◌}
+use Rattle.std.proofs.lemmas.List.{get_or-drop, get_or_append_left, get_or-append_right}
 use lib.Seq.{drop-cons}
 use borrow.Author.Tests.{not-true}
 use Rattle.laws.proofs.Booleans.{and_both, neither}
@@ -31,7 +31,7 @@ use Rattle.flags.specs.Flags.{set_of}
 use Rattle.instant_store.specs.PassBound.{applied, pass}
 use Rattle.instant_store.specs.Passes.{HasFacts, adds, Passed, Flooded}
 use Rattle.instant_store.proofs.Pass.{applied_brings, applied_keeps, applied_already}
-use Rattle.flags.proofs.Flags.{member_flag, set_kept, set_here, set_cases, set_longer}
+use Rattle.flags.proofs.Flags.{member_flag, flag_member, set_kept, set_longer}
 
 -- two premises
 both : (a b : Bool) → (a && (b && true)) ≡ (a && b)
@@ -118,20 +118,23 @@ module _ (s : List ℕ) (k : ℕ) (facts : Bool) (before later : List Bool) (add
     counted = h.counted;
   }
 
-pub flooded_none : (store : List Bool) → length store ≡ 256 → Flooded 0 store store
-flooded_none store long = record { long = long; kept = λ t m. m; filled = λ t l. absurd (not-suc-le-zero l); only = λ t m. inr m }
+pub flooded : (n : ℕ) (before : List Bool) → n ≤ 256 → length before ≡ 256 → Flooded n before (replicate n true ++ drop n before)
+flooded n before few long = record {
+  long = omega (arith, length-append (replicate n true) (drop n before), length-replicate n true, length-drop n before);
+  kept = λ t m. by_cases (dec_lt t n) (λ l. in_first t l) (λ g. flag_member now (beyond t (omega arith) ∙ member_flag before m));
+  filled = in_first;
+  only = λ t m. by_cases (dec_lt t n) (λ (l : t < n). inl l) (λ g. inr (flag_member before (sym (beyond t (omega arith)) ∙ member_flag now m)));
+}
+  where
+    now : List Bool
+    now = replicate n true ++ drop n before
 
-pub flooded_more : (n : ℕ) (before after : List Bool) → n < 256 → Flooded n before after → Flooded (n + 1) before (set after n true)
-flooded_more n before after room h =
-    let long : length after ≡ 256 = h.long in
-    record {
-      long = omega (arith, length-set after n true);
-      kept = λ t m. set_kept after n (h.kept t m);
-      filled = λ t l. by_cases (dec_lt t n)
-          (λ lt. set_kept after n (h.filled t lt))
-          (λ g. let e : t ≡ n = omega arith in Memᴰ.cast e (set_here after n (omega arith)));
-      only = λ t m. ⊎_elim
-          (λ (e : t ≡ n). inl (omega arith))
-          (λ (k : Memᴰ t (set_of after)). ⊎_elim (λ (l : t < n). inl (omega arith)) (λ (k' : Memᴰ t (set_of before)). inr k') (h.only t k))
-          (set_cases after n m);
-    }
+    in_first : (t : ℕ) → t < n → Memᴰ t (set_of now)
+    in_first t l = flag_member now (get_or_append_left (replicate n true) (drop n before) false t (omega (arith, length-replicate n true)) ∙ get_or-replicate n t true false l)
+
+    beyond : (t : ℕ) → n ≤ t → get_or now t false ≡ get_or before t false
+    beyond t g =
+        let e : n + (t - n) ≡ t = omega arith in
+        get_or-append_right (replicate n true) (drop n before) n t false (length-replicate n true) g
+        ∙ get_or-drop n before (t - n) false
+        ∙ ap (λ k. get_or before k false) e

@@ -1,9 +1,9 @@
 -- Passes until one adds nothing, one after the other.
 --     conclusions_flagged    a conclusion has 8 bits
---     Repeating          what n passes have done, the last of which added some number of tokens: where it added some, the
---                        tokens are n more at least and the count goes on, and where it added none it ends
+--     Repeating          what n passes have done, each of which added a token: the tokens are n more at least, and the
+--                        count goes on
 --     repeating_none     nothing before the first pass
---     repeating_more     one pass more
+--     repeating_more     one pass more, which added some tokens
 --     repeating_few      each pass so far added one of 256 tokens
 --     repeating_all      after a pass that added nothing all are made
 use mathlib.Core.Path.{◌≡◌, refl, sym, ap, subst, subst⁻¹, ◌∙◌}
@@ -29,23 +29,21 @@ use Rattle.instant_store.proofs.Pass.{Flagged, pass_long, pass_kept, pass_facts,
 pub conclusions_flagged : (s : List ℕ) (store : List Bool) → length store ≡ 256 → Within (Flagged store) (decode s).rules
 conclusions_flagged s store long = on_rules s (Flagged store) (λ k from lt. omega (arith, field_below (word_at s k) 0 8))
 
-pub record Repeating (sc : Score) (before later : List Bool) (n added : ℕ) : Type 0 where
+pub record Repeating (sc : Score) (before later : List Bool) (n : ℕ) : Type 0 where
   pub long : length later ≡ 256
   pub made : later ≡ after sc.rules n before
   pub facts_in : (n ≡ 0 → ⊥) → HasFacts sc later
-  pub larger : 0 < added → length (set_of before) + n ≤ length (set_of later)
-  pub onward : 0 < added → (k : ℕ) → PassCount sc.rules later k → PassCount sc.rules before (n + k)
-  pub ended : added ≡ 0 → PassCount sc.rules before n
+  pub larger : length (set_of before) + n ≤ length (set_of later)
+  pub onward : (k : ℕ) → PassCount sc.rules later k → PassCount sc.rules before (n + k)
 
 module _ (sc : Score) where
-  pub repeating_none : (store : List Bool) → length store ≡ 256 → Repeating sc store store 0 1
+  pub repeating_none : (store : List Bool) → length store ≡ 256 → Repeating sc store store 0
   repeating_none store long = record {
     long = long;
     made = refl;
     facts_in = λ some. absurd (some refl);
-    larger = λ _. omega arith;
-    onward = λ _ k c. let e : k ≡ 0 + k = omega arith in subst (PassCount sc.rules store) e c;
-    ended = λ e. absurd (omega arith);
+    larger = omega arith;
+    onward = λ k c. let e : k ≡ 0 + k = omega arith in subst (PassCount sc.rules store) e c;
   }
 
   module _ (store later : List Bool) (added : ℕ) (h : Passed sc store later added) where
@@ -64,19 +62,21 @@ module _ (sc : Score) where
         (λ (a : Adds store (pass sc.rules store)). a)
         (pass_changes sc.rules store)
 
-  module _ (before store later : List Bool) (n old added : ℕ) (h : Repeating sc before store n old) (grew : 0 < old) where
-    pub repeating_more : Within (Flagged store) sc.rules → Passed sc store later added → Repeating sc before later (n + 1) added
-    repeating_more few p = record {
+  module _ (before store later : List Bool) (n added : ℕ) (h : Repeating sc before store n) (p : Passed sc store later added) where
+    made_more : later ≡ after sc.rules (n + 1) before
+    made_more = p.made ∙ ap (pass sc.rules) h.made ∙ sym (after_next sc.rules n before) ∙ ap (λ k. after sc.rules k before) (sym (add-one n))
+
+    pub repeating_more : Within (Flagged store) sc.rules → 0 < added → Repeating sc before later (n + 1)
+    repeating_more few some = record {
       long = ap length p.made ∙ pass_long sc.rules store ∙ h.long;
-      made = p.made ∙ ap (pass sc.rules) h.made ∙ sym (after_next sc.rules n before) ∙ ap (λ k. after sc.rules k before) (sym (add-one n));
+      made = made_more;
       facts_in = λ _ r m none. subst⁻¹ (λ l. Memᴰ r.conclusion (set_of l)) p.made (pass_facts sc.rules store few r m none);
-      larger = λ some. omega (arith, h.larger grew, p.counted);
-      onward = λ some k c. let e : n + suc k ≡ n + 1 + k = omega arith in subst (PassCount sc.rules before) e (h.onward grew (suc k) (more (added_some store later added p some) (subst (λ l. PassCount sc.rules l k) p.made c)));
-      ended = λ none. h.onward grew 1 (last (added_none store later added p none));
+      larger = omega (arith, h.larger, p.counted);
+      onward = λ k c. let e : n + suc k ≡ n + 1 + k = omega arith in subst (PassCount sc.rules before) e (h.onward (suc k) (more (added_some store later added p some) (subst (λ l. PassCount sc.rules l k) p.made c)));
     }
 
-pub repeating_few : (sc : Score) (before later : List Bool) (n added : ℕ) → Repeating sc before later n added → 0 < added → n ≤ 256
-repeating_few sc before later n added h grew = omega (arith, h.larger grew, h.long, set_length_le later)
+    pub repeating_all : added ≡ 0 → Repeated sc before later (n + 1)
+    repeating_all none = record { made = made_more; counted = h.onward 1 (last (added_none store later added p none)) }
 
-pub repeating_all : (sc : Score) (before later : List Bool) (n added : ℕ) → Repeating sc before later n added → added ≡ 0 → Repeated sc before later n
-repeating_all sc before later n added h none = record { made = h.made; counted = h.ended none }
+pub repeating_few : (sc : Score) (before later : List Bool) (n : ℕ) → Repeating sc before later n → n ≤ 256
+repeating_few sc before later n h = omega (arith, h.larger, h.long, set_length_le later)

@@ -13,7 +13,7 @@ use Rattle.lent.specs.States.{state_fault, as_bytes, instant_number, next_bytes,
 use Rattle.lent.proofs.Numbered.{state_aside, numbered_alike, next_number}
 use Rattle.journal_instants.specs.Instants.{inputs_in}
 use Rattle.journal_words.specs.History.{entry}
-use Rattle.journal_step.specs.declared.Reply.TheVariants.{Unlawful, Differs}
+use Rattle.refusals.specs.Refused.{Next as Unlawful, Differs}
 use Rattle.journal_step.specs.AnswerIn.{answer_in}
 use Rattle.journal_check.specs.Check.{same, check_from}
 

@@ -6,17 +6,17 @@
 --     next             what reading it says
 --     first_formed     its words are as the form asks
 --     checking_more    one instant more
---     checking_unlawful, checking_differs     an instant that ends the check
+--     checking_unlawful, checking_differs, checking_last     an instant that ends the check
 use mathlib.Core.Path.{◌≡◌, refl, sym, ap, ap₂, subst⁻¹, ◌∙◌}
-use mathlib.Core.Bool.{Bool, true, false, cond, not, ◌&&◌, ◌||◌}
+use mathlib.Core.Bool.{Bool, true, false, cond, not, ◌&&◌}
 use mathlib.Core.List.{List, Memᴰ}
 use Prim.Native.Nat.{ℕ, suc, ◌+◌, ◌^◌, ◌<◌, ◌≤◌}
 use native.Mathlib.Numerals.{add-one}
 use native.Mathlib.Omega.{arith}
-use borrow.Author.Tests.{eqb-false}
+use borrow.Author.Tests.{eq-eqb, ne_eqb}
 use lib.Dec.{eqb}
 use lib.ListN.{length, get_or, drop, length-drop}
-use Rattle.laws.proofs.Booleans.{neither}
+use Rattle.std.specs.Prelude.{Err}
 use Rattle.tcc.specs.Instant.{start_state, Answer, answer, after}
 use Rattle.words.specs.Word.{words}
 use Rattle.format.specs.Decode.{sizes, decode}
@@ -25,8 +25,7 @@ use Rattle.lent.specs.States.{state_fault, state_of, as_bytes, instant_number, s
 use Rattle.lent.proofs.Numbered.{numbered_state, number_round}
 use Rattle.instant_state.specs.declared.Standing.{Standing}
 use Rattle.instant_state.specs.Standing.{state_in}
-use Rattle.journal_form.specs.declared.Form.TheVariants.{Good}
-use Rattle.journal_form.specs.Form.{form_of}
+use Rattle.journal_form.specs.Form.{Good, form_of}
 use Rattle.journal_instants.specs.Instants.{instants_in, inputs_in}
 use Rattle.journal_instants.specs.Parts.{part_at}
 use Rattle.journal_instants.proofs.Parts.{instants_end}
@@ -34,14 +33,15 @@ use Rattle.journal_words.specs.History.{entry}
 use Rattle.journal_words.specs.Formed.{Formed}
 use Rattle.journal_words.proofs.Forms.{good_instants}
 use Rattle.journal_step.specs.AnswerIn.{answer_in}
-use Rattle.journal_step.specs.declared.Reply.{Reply}
-use Rattle.journal_step.specs.declared.Reply.TheVariants.{Unlawful, Differs, Accepted}
+use Rattle.journal_step.specs.Reply.{Reply}
+use Rattle.refusals.specs.Refused.{Next as Unlawful, Differs}
+use Rattle.journal_step.specs.Reply.{Accepted}
 use Rattle.journal_step.proofs.Reading.{Reading, reading_none, Next, reading_next}
 use Rattle.journal_step.proofs.Starts.{start_lawful}
-use Rattle.journal_check.specs.declared.Checked.{Checked}
+use Rattle.journal_check.specs.declared.Mismatch.TheVariants.{Unlawful as NextUnlawful, Differs as OtherWords}
 use Rattle.journal_check.specs.Check.{same, check_from}
 use Rattle.journal_check.specs.JournalCheckCall.{checked}
-use Rattle.journal_check.specs.Held.{Held}
+use Rattle.journal_check.specs.Held.{Accepts, Held}
 
 pub record Checking (score journal : List ℕ) (stands : Standing) (n at : ℕ) : Type 0 where
   pub state : List ℕ
@@ -87,13 +87,10 @@ module _ {score journal : List ℕ} {stands : Standing} {n at : ℕ} {here : Lis
   abbrev now : Answer
   now = answer (decode score) (state_in stands) (inputs_in (words here))
 
-  abbrev right : Bool
-  right = not (eqb n last_number) && same (words here) (entry (decode score) (inputs_in (words here)) now)
-
   abbrev later : Reply
   later = check_from score (next_bytes t.checking.state now) (suc n) (instants_in (words (drop (at + length here) journal)))
 
-  from_here : checked score journal ≡ cond (state_fault (sizes score).agents (as_bytes (after now))) Unlawful (cond right later (Differs n))
+  from_here : checked score journal ≡ cond (state_fault (sizes score).agents (as_bytes (after now))) Unlawful (cond (not (eqb n last_number) && same (words here) (entry (decode score) (inputs_in (words here)) now)) later (Differs n))
   unfolding check_from answer_in
   from_here =
       t.checking.whole ∙ ap (check_from score t.checking.state n) next.instants
@@ -104,40 +101,38 @@ module _ {score journal : List ℕ} {stands : Standing} {n at : ℕ} {here : Lis
       (cond (not (eqb m last_number) && same (words here) (entry (decode score) (inputs_in (words here)) x)) (check_from score (next_bytes t.checking.state x) (suc n) (instants_in (words (drop (at + length here) journal)))) (Differs n)))
       t.checking.stands_for t.checking.number_is
 
-  module _ (c : Checked) (h : Held score now (words here) c) where
-    by_fault : (b : Bool) → c.unlawful ≡ b → checked score journal ≡ cond b Unlawful (cond right later (Differs n))
-    by_fault b u = from_here ∙ ap (λ x. cond x Unlawful (cond right later (Differs n))) (sym h.unlawful_is ∙ u)
+  by_words : {f w : Bool} → state_fault (sizes score).agents (as_bytes (after now)) ≡ f → same (words here) (entry (decode score) (inputs_in (words here)) now) ≡ w →
+      checked score journal ≡ cond f Unlawful (cond (not (eqb n last_number) && w) later (Differs n))
+  by_words f w = from_here ∙ ap₂ (λ x y. cond x Unlawful (cond (not (eqb n last_number) && y) later (Differs n))) f w
 
-    pub checking_unlawful : c.unlawful ≡ true → Unlawful ≡ checked score journal
-    checking_unlawful u = sym (by_fault true u)
+  pub checking_unlawful : Held score now (words here) (Err NextUnlawful) → Unlawful ≡ checked score journal
+  checking_unlawful u = sym (by_words u refl)
 
-    right_is : (x : Bool) → (c.differs || eqb n last_number) ≡ x → right ≡ not x
-    right_is x e = go _ (eqb n last_number) (ap (λ d. d || eqb n last_number) (sym h.differs_is) ∙ e)
-      where
-        go : (a b : Bool) → (not a || b) ≡ x → (not b && a) ≡ not x
-        go true true e = ap not e
-        go true false e = ap not e
-        go false true e = ap not e
-        go false false e = ap not e
+  pub checking_differs : Held score now (words here) (Err OtherWords) → Differs n ≡ checked score journal
+  checking_differs h = sym (by_words h.0 h.1 ∙ go (not (eqb n last_number)))
+    where
+      go : (b : Bool) → cond (b && false) later (Differs n) ≡ Differs n
+      go true = refl
+      go false = refl
 
-    pub checking_differs : c.unlawful ≡ false → (c.differs || eqb n last_number) ≡ true → Differs n ≡ checked score journal
-    checking_differs u d = sym (by_fault false u ∙ ap (λ x. cond x later (Differs n)) (right_is true d))
+  pub checking_last : {standing : Standing} → Accepts score now (words here) standing → n ≡ last_number → Differs n ≡ checked score journal
+  checking_last h e = sym (by_words h.faultless h.same_words ∙ ap (λ b. cond (not b && true) later (Differs n)) (eq-eqb n last_number e))
 
-    pub checking_more : c.unlawful ≡ false → (c.differs || eqb n last_number) ≡ false → Checking score journal c.standing (n + 1) (at + length here)
-    checking_more u d = record {
-      state = next_bytes t.checking.state now;
-      whole =
-          by_fault false u
-          ∙ ap (λ x. cond x later (Differs n)) (right_is false d)
-          ∙ ap (λ k. check_from score (next_bytes t.checking.state now) k (instants_in (words (drop (at + length here) journal)))) (sym (add-one n));
-      stands_for = numbered_state (after now) (suc (instant_number t.checking.state)) ∙ sym h.stands;
-      number_is = number_round (after now) (suc (instant_number t.checking.state)) (omega (arith, below, t.checking.number_is)) ∙ omega (arith, t.checking.number_is);
-      few = omega (arith, below);
-      lawful = h.lawful;
-      counted = omega (arith, next.some, t.checking.counted);
-      reading = next.follows;
-      formed = λ ws m. t.checking.formed ws (subst⁻¹ (Memᴰ ws) next.instants (Memᴰ.tail m));
-    }
-      where
-        below : n < last_number
-        below = let e : n ≡ last_number → ⊥ = eqb-false n last_number (neither c.differs (eqb n last_number) d).1 in omega (arith, t.checking.few)
+  pub checking_more : {standing : Standing} → Accepts score now (words here) standing → (n ≡ last_number → ⊥) → Checking score journal standing (n + 1) (at + length here)
+  checking_more h ne = record {
+    state = next_bytes t.checking.state now;
+    whole =
+        by_words h.faultless h.same_words
+        ∙ ap (λ b. cond (not b && true) later (Differs n)) (ne_eqb n last_number ne)
+        ∙ ap (λ k. check_from score (next_bytes t.checking.state now) k (instants_in (words (drop (at + length here) journal)))) (sym (add-one n));
+    stands_for = numbered_state (after now) (suc (instant_number t.checking.state)) ∙ sym h.stands;
+    number_is = number_round (after now) (suc (instant_number t.checking.state)) (omega (arith, below, t.checking.number_is)) ∙ omega (arith, t.checking.number_is);
+    few = omega (arith, below);
+    lawful = h.lawful;
+    counted = omega (arith, next.some, t.checking.counted);
+    reading = next.follows;
+    formed = λ ws m. t.checking.formed ws (subst⁻¹ (Memᴰ ws) next.instants (Memᴰ.tail m));
+  }
+    where
+      below : n < last_number
+      below = omega (arith, t.checking.few)

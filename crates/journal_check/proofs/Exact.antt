@@ -21,8 +21,9 @@ use Rattle.lent.proofs.Numbered.{next_number}
 use Rattle.journal_instants.specs.Instants.{inputs_in}
 use Rattle.journal_words.specs.History.{entry, RisingBelow}
 use Rattle.journal_words.proofs.Histories.{entry_inputs, entries}
-use Rattle.journal_step.specs.declared.Reply.{Reply}
-use Rattle.journal_step.specs.declared.Reply.TheVariants.{Differs, Accepted}
+use Rattle.journal_step.specs.Reply.{Reply}
+use Rattle.refusals.specs.Refused.{Differs}
+use Rattle.journal_step.specs.Reply.{Accepted}
 use Rattle.journal_step.specs.AnswerIn.{answer_in}
 use Rattle.journal_step.proofs.Stands.{Stands, instant_entry, instant_stands, instant_lawful}
 use Rattle.journal_check.specs.Check.{same, check_from}

@@ -1,34 +1,48 @@
 -- One instant of a journal, from flags to the definition.
---     held             the instant that its inputs give, held against its words
-use mathlib.Core.Path.{◌≡◌, sym, ap, subst, subst⁻¹, ◌∙◌}
-use mathlib.Core.Bool.{Bool, not}
+--     held_unlawful, held_differs, accepts     the instant that its inputs give, held against its words
+use mathlib.Core.Path.{◌≡◌, sym, ap, subst, ◌∙◌}
+use mathlib.Core.Bool.{Bool, true, false, not}
 use mathlib.Core.List.{List}
 use Prim.Native.Nat.{ℕ}
+use borrow.Author.Tests.{not-true, not-false}
+use Rattle.std.specs.Prelude.{Err}
 use Rattle.tcc.specs.Instant.{State, Answer, answer}
-use Rattle.format.specs.Decode.{sizes, decode}
+use Rattle.format.specs.Decode.{decode}
 use Rattle.format.specs.Playable.{Playable}
 use Rattle.flags.specs.Flags.{set_of}
-use Rattle.lent.specs.States.{LawfulState}
-use Rattle.instant_state.specs.Standing.{state_in}
 use Rattle.journal_instants.specs.Instants.{inputs_in}
 use Rattle.journal_words.specs.History.{instant_words, entry}
 use Rattle.journal_step.specs.declared.Step.{Step}
 use Rattle.journal_step.specs.Stepped.{Stepped}
 use Rattle.journal_step.proofs.FromStanding.{words_are}
-use Rattle.journal_check.specs.declared.Checked.{Checked}
+use Rattle.journal_check.specs.declared.Mismatch.TheVariants.{Unlawful, Differs}
 use Rattle.journal_check.specs.Check.{same}
-use Rattle.journal_check.specs.Held.{Held}
+use Rattle.journal_check.specs.Held.{Accepts, Held}
 
 module _ (score : List ℕ) (p : Playable score) (st : State) (ws : List ℕ) (told : List Bool) (set : set_of told ≡ inputs_in ws)
     (s : Step) (is : Stepped score (answer (decode score) st (set_of told)) s) where
-  abbrev a : Answer
-  a = answer (decode score) st (set_of told)
+  abbrev now : Answer
+  now = answer (decode score) st (inputs_in ws)
 
-  pub held : (c : Checked) → c.unlawful ≡ s.unlawful → c.differs ≡ not (same ws (instant_words s.status (inputs_in ws) (set_of s.out))) → c.standing ≡ s.standing →
-      Held score (answer (decode score) st (inputs_in ws)) ws c
-  held c u d stands = subst (λ l. Held score (answer (decode score) st l) ws c) set (record {
-    unlawful_is = u ∙ is.unlawful_is;
-    differs_is = d ∙ ap (λ l. not (same ws l)) (ap (λ l. instant_words s.status l (set_of s.out)) (sym set) ∙ words_are score p st (set_of told) is ∙ ap (λ l. entry (decode score) l a) set);
-    stands = ap state_in stands ∙ is.stands;
-    lawful = subst⁻¹ (λ x. LawfulState (sizes score).agents (state_in x)) stands is.lawful;
-  })
+  abbrev written : List ℕ
+  written = instant_words s.status (inputs_in ws) (set_of s.out)
+
+  stepped : Stepped score now s
+  stepped = subst (λ l. Stepped score (answer (decode score) st l) s) set is
+
+  same_so : same ws written ≡ same ws (entry (decode score) (inputs_in ws) now)
+  same_so = ap (same ws) (words_are score p st (inputs_in ws) stepped)
+
+  pub held_unlawful : s.unlawful ≡ true → Held score now ws (Err Unlawful)
+  held_unlawful u = sym stepped.unlawful_is ∙ u
+
+  pub held_differs : s.unlawful ≡ false → {d : Bool} → d ≡ not (same ws written) → d ≡ true → Held score now ws (Err Differs)
+  held_differs u so d = (sym stepped.unlawful_is ∙ u, sym same_so ∙ not-true _ (sym so ∙ d))
+
+  pub accepts : s.unlawful ≡ false → {d : Bool} → d ≡ not (same ws written) → d ≡ false → Accepts score now ws s.standing
+  accepts u so d = record {
+    faultless = sym stepped.unlawful_is ∙ u;
+    same_words = sym same_so ∙ not-false _ (sym so ∙ d);
+    stands = stepped.stands;
+    lawful = stepped.lawful;
+  }

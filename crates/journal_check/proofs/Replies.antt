@@ -17,7 +17,7 @@ use Rattle.lent.specs.Lengths.{scratch_bytes}
 use Rattle.journal_instants.specs.Instants.{instants_in, inputs_in}
 use Rattle.journal_words.specs.History.{entry}
 use Rattle.journal_words.proofs.Counts.{instants_few}
-use Rattle.journal_step.specs.declared.Reply.{Reply}
+use Rattle.journal_step.specs.Reply.{Reply}
 use Rattle.journal_step.specs.AnswerIn.{answer_in}
 use Rattle.journal_step.proofs.Replies.{Proper, unlawful, differs, accepted, Replies, by_score, by_lengths, by_form_lem}
 use Rattle.journal_check.specs.Check.{same, check_from}

@@ -10,8 +10,9 @@ use Rattle.format.specs.Decode.{sizes, decode}
 use Rattle.lent.specs.States.{state_fault, as_bytes, next_bytes, at_last}
 use Rattle.journal_instants.specs.Instants.{inputs_in}
 use Rattle.journal_words.specs.History.{entry}
-use Rattle.journal_step.specs.declared.Reply.{Reply}
-use Rattle.journal_step.specs.declared.Reply.TheVariants.{Unlawful, Differs, Accepted}
+use Rattle.journal_step.specs.Reply.{Reply}
+use Rattle.refusals.specs.Refused.{Next as Unlawful, Differs}
+use Rattle.journal_step.specs.Reply.{Accepted}
 use Rattle.journal_step.specs.AnswerIn.{answer_in}
 
 abbrev pub same : List ℕ → List ℕ → Bool

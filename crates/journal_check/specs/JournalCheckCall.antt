@@ -8,14 +8,14 @@
 use Rattle.std.specs.Prelude.{◌≡◌, true, cond, not, List, ℕ, eqb, length}
 use Rattle.words.specs.Word.{words}
 use Rattle.format.specs.Decode.{sizes, decode}
-use Rattle.check_verdicts.specs.Verdicts.{verdict_number}
+use Rattle.check_verdicts.specs.Verdicts.{by_verdict}
 use Rattle.check_score.specs.Check.{verdict}
 use Rattle.lent.specs.Lengths.{scratch_bytes, no_scratch}
 use Rattle.lent.specs.States.{start_bytes}
 use Rattle.journal_form.specs.Form.{form_of}
 use Rattle.journal_instants.specs.Instants.{instants_in}
-use Rattle.journal_step.specs.declared.Reply.{Reply}
-use Rattle.journal_step.specs.declared.Reply.TheVariants.{Score as Turned, Lengths}
+use Rattle.journal_step.specs.Reply.{Reply}
+use Rattle.refusals.specs.Refused.{Turned, Lengths}
 use Rattle.journal_step.specs.ByForm.{by_form}
 use Rattle.journal_check.specs.Check.{check_from}
 
@@ -31,7 +31,7 @@ checked score journal = check_from score (start_bytes (decode score)) 0 (instant
 
 unfoldable pub exit : List ℕ → List ℕ → List ℕ → Exit
 exit score journal scratch =
-    cond (not (eqb (verdict_number (verdict score)) 0)) (left scratch (Turned (verdict score)))
+    by_verdict (verdict score) (λ f. left scratch (Turned f))
     (cond (not (eqb (length scratch) scratch_bytes)) (left scratch Lengths)
     (by_form (form_of true (sizes score).tokens journal) (left scratch)
     (left no_scratch (checked score journal))))

@@ -16,8 +16,7 @@ use lib.ListN.{length, get_or, drop, drop_of_length-le}
 use lib.Seq.{drop-cons}
 use Rattle.words.specs.Word.{words, kind}
 use Rattle.format.specs.Format.{is_word}
-use Rattle.journal_form.specs.declared.Form.TheVariants.{Good, Bytes, Word}
-use Rattle.journal_form.specs.Form.{token_of, status_in, is_instant, rises, may_follow, first_against, form_of}
+use Rattle.journal_form.specs.Form.{Good, Bytes, Word, token_of, status_in, is_instant, rises, may_follow, first_against, form_of}
 
 module _ (journal : Bool) (tokens : ℕ) where
   pub form_bytes : (bytes : List ℕ) → (length bytes % 4 ≡ 0 → ⊥) → form_of journal tokens bytes ≡ Bytes

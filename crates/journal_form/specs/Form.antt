@@ -3,6 +3,7 @@
 -- output tokens, rising strictly. In a list or journal the first word is kind 12, and status 3 is against its form. No
 -- bytes is a list, and a journal, of no instants." A list is here a journal whose statuses are 0 and whose instants
 -- have no outputs.
+--     Form, Good, Bytes, Word  the form of a list or journal: `Ok`, or `Err` of what is against it; and its three cases by name
 --     token_of, status_in      the token of an input or output word; the status of an instant word
 --     is_instant               a word of kind 12: an instant starts with it
 --     rises                    of two words of one kind, the later one has the higher token
@@ -10,11 +11,23 @@
 --                              the word before the first is 0, which is of no kind
 --     first_against            the lowest word against its form
 --     form_of                  numbers 12 and 13: the form of bytes
-use Rattle.std.specs.Prelude.{Bool, cond, ◌&&◌, ◌||◌, List, [], ◌∷◌, ℕ, suc, ◌%◌, eqb, ltb, length}
+use Rattle.std.specs.Prelude.{Bool, cond, ◌&&◌, ◌||◌, List, [], ◌∷◌, ℕ, suc, ◌%◌, eqb, ltb, length, Result, Ok, Err}
 use Rattle.words.specs.Word.{words, field, kind}
 use Rattle.format.specs.Format.{is_word}
-use Rattle.journal_form.specs.declared.Form.{Form}
-use Rattle.journal_form.specs.declared.Form.TheVariants.{Good, Bytes, Word}
+use Rattle.journal_form.specs.declared.Misform.{Misform}
+use Rattle.journal_form.specs.declared.Misform.TheVariants as Against
+
+abbrev pub Form : Type 0
+Form = Result (Unit {0}) Misform
+
+pattern abbrev pub Good : Form
+Good = Ok tt
+
+pattern abbrev pub Bytes : Form
+Bytes = Err Against.Bytes
+
+pattern abbrev pub Word : ℕ → Form
+Word k = Err (Against.Word k)
 
 abbrev pub token_of : ℕ → ℕ
 token_of w = field w 0 8

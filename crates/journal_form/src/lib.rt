@@ -4,36 +4,50 @@
 ghost use Rattle.std.specs.Prelude.{◌≡◌, cond, ◌&&◌, ltb};
 ghost use Rattle.format.specs.Format.{is_word};
 ghost use Rattle.journal_form.specs.Form.{token_of, status_in, is_instant, rises, may_follow, form_of};
+ghost use Rattle.journal_form.specs.Refusals.{refusal_of};
 
-// The form of a list or journal.
+use refusals::Refusal;
+
+// The form of a list or journal: good, or what is against it.
+pub type Form = Result<(), Misform>;
+
+// What in a list or journal is against its form.
 #[derive(Clone, Copy)]
-pub enum Form {
-    Good,
+pub enum Misform {
     // Not a multiple of 4 bytes.
     Bytes,
     // The lowest word against its form.
     Word(usize),
 }
 
-// The form of a list, or of a journal, of a score with so many tokens: numbers 12 and 13.
+impl From<Misform> for Refusal {
+    ghost from_gives = { λ m r. r ≡ refusal_of m };
+
+    fn from(misform: Misform) -> Refusal {
+        match misform {
+            Misform::Bytes => Refusal::Bytes,
+            Misform::Word(word) => Refusal::Word(word),
+        }
+    }
+}
+
+// The form of a list, or of a journal, of a score with so many tokens: numbers 12 and 13. Which of the two is a bool, as in
+// the definition `form_of`, which theorems cite.
 pub fn form_of(bytes: &[u8], tokens: usize, journal: bool) -> Form
     ensures { result ≡ form_of journal tokens bytes.now }
 {
     if bytes.len() % 4 != 0 {
-        return Form::Bytes;
+        return Err(Misform::Bytes);
     }
-    let count = words::word_count(bytes);
     let mut last = 0;
-    let mut k = 0;
-    while k < count {
+    for k in 0..words::word_count(bytes) {
         let w = words::word_at(bytes, k);
         if !may_follow(journal, tokens, last, w) {
-            return Form::Word(k);
+            return Err(Misform::Word(k));
         }
         last = w;
-        k += 1;
     }
-    Form::Good
+    Ok(())
 }
 
 // Whether a word has its form after the word before it.

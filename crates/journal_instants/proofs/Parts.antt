@@ -13,7 +13,7 @@
 --     starts_some      so it starts with one, if it has a word
 --     instants_end     bytes without a word have no instants
 --     part_on, part_off, part_past     the part from a position on: of a good form, where a word starts; where none does; past the end
---     part_bytes, part_word            of another form
+--     part_against                     of another form
 --     good_starts      bytes of a good form have no words or start with an instant word
 --     good_four        and are a multiple of 4
 use mathlib.Core.Path.{◌≡◌, refl, sym, ap, ap₂, ◌∙◌}
@@ -31,9 +31,10 @@ use Rattle.laws.proofs.Booleans.{true_is_false, and_both}
 use Rattle.words.specs.Word.{words, word_at, field}
 use Rattle.words.proofs.Words.{words_length}
 use Rattle.format.specs.Format.{is_word}
-use Rattle.journal_form.specs.declared.Form.{Form}
-use Rattle.journal_form.specs.declared.Form.TheVariants.{Good, Bytes, Word}
-use Rattle.journal_form.specs.Form.{token_of, is_instant, may_follow, first_against, form_of}
+use Rattle.journal_form.specs.declared.Misform.{Misform}
+use Rattle.journal_form.specs.declared.Misform.TheVariants as Against
+use Rattle.std.specs.Prelude.{Err}
+use Rattle.journal_form.specs.Form.{Form, Good, Bytes, Word, token_of, is_instant, may_follow, first_against, form_of}
 use Rattle.journal_instants.specs.Instants.{up_to, instants_in}
 use Rattle.journal_instants.specs.Parts.{span, part_from, part_at}
 
@@ -183,17 +184,18 @@ module _ (bytes : List ℕ) (at : ℕ) where
   unfolding part_at
   part_off e h = rw (e, ne_eqb (at % 4) 0 h)
 
-  pub part_past : {form : Form} → form ≡ Good → at % 4 ≡ 0 → length bytes < at → [] ≡ part_at form bytes at
-  unfolding words
-  part_past e h l = let le : length bytes ≤ at = omega arith in sym (ap part_from (drop_of_length-le bytes le)) ∙ part_on e h
+  pub part_past : {form : Form} → form ≡ Good → length bytes < at → [] ≡ part_at form bytes at
+  unfolding words part_at
+  part_past e l = let le : length bytes ≤ at = omega arith in rw (e, drop_of_length-le bytes le) (none (eqb (at % 4) 0))
+    where
+      none : (b : Bool) → ◌≡◌ {A = List ℕ} [] (cond b [] [])
+      none true = refl
+      none false = refl
 
-  pub part_bytes : {form : Form} → form ≡ Bytes → [] ≡ part_at form bytes at
+  pub part_against : {form : Form} {m : Misform} → form ≡ Err m → [] ≡ part_at form bytes at
   unfolding part_at
-  part_bytes e = rw e
-
-  pub part_word : {form : Form} {k : ℕ} → form ≡ Word k → [] ≡ part_at form bytes at
-  unfolding part_at
-  part_word e = rw e
+  part_against {m = Against.Bytes} e = rw e
+  part_against {m = Against.Word k} e = rw e
 
 -- ---- a good form
 

@@ -4,8 +4,7 @@
 --                        form is against it, or where the position is no word's
 use Rattle.std.specs.Prelude.{cond, List, [], ◌∷◌, ℕ, suc, ◌*◌, ◌%◌, eqb, length, take, drop}
 use Rattle.words.specs.Word.{words}
-use Rattle.journal_form.specs.declared.Form.{Form}
-use Rattle.journal_form.specs.declared.Form.TheVariants.{Good, Bytes, Word}
+use Rattle.journal_form.specs.Form.{Form, Good, Bytes, Word}
 use Rattle.journal_instants.specs.Instants.{up_to}
 
 -- how many words from the first on, up to the next instant word
@@ -18,5 +17,5 @@ part_from bytes = take (4 * span (words bytes)) bytes
 
 unfoldable pub part_at : Form → List ℕ → ℕ → List ℕ
 part_at Good bytes at = cond (eqb (at % 4) 0) (part_from (drop at bytes)) []
-part_at Bytes bytes at = []
-part_at (Word k) bytes at = []
+part_at Bytes _ _ = []
+part_at (Word _) _ _ = []

@@ -5,7 +5,7 @@ ghost use Rattle.std.specs.Prelude.{◌≡◌, ◌*◌};
 ghost use Rattle.words.specs.Word.{words};
 ghost use Rattle.flags.specs.Flags.{flags_of};
 ghost use Rattle.journal_instants.specs.Instants.{tokens_of};
-ghost use Rattle.journal_instants.specs.Parts.{span, part_from, part_at};
+ghost use Rattle.journal_instants.specs.Parts.{span, part_at};
 
 use flags::Tokens;
 use journal_form::Form;
@@ -14,27 +14,10 @@ use journal_form::Form;
 pub fn part(bytes: &[u8], form: Form, at: usize) -> &[u8]
     ensures { result.now ≡ part_at form bytes.now at }
 {
-    match form {
-        Form::Good => {
-            if at % 4 != 0 {
-                return &bytes[0..0];
-            }
-            if bytes.len() < at {
-                return &bytes[0..0];
-            }
-            first_part(&bytes[at..])
-        }
-        Form::Bytes => &bytes[0..0],
-        Form::Word(_) => &bytes[0..0],
+    match (form, bytes.get(at..)) {
+        (Ok(()), Some(rest)) if at % 4 == 0 => &rest[..span_of(rest)],
+        _ => &[],
     }
-}
-
-// The first part of bytes.
-fn first_part(bytes: &[u8]) -> &[u8]
-    ensures { result.now ≡ part_from bytes.now }
-{
-    let end = span_of(bytes);
-    &bytes[0..end]
 }
 
 // How many bytes the first part of bytes has.
@@ -42,12 +25,10 @@ fn span_of(bytes: &[u8]) -> usize
     ensures { result ≡ 4 * span (words bytes.now) }
 {
     let count = words::word_count(bytes);
-    let mut k = 1;
-    while k < count {
+    for k in 1..count {
         if journal_form::is_instant(words::word_at(bytes, k)) {
             return 4 * k;
         }
-        k += 1;
     }
     4 * count
 }
@@ -56,16 +37,12 @@ fn span_of(bytes: &[u8]) -> usize
 pub fn tokens_in(bytes: &[u8], kind: u32) -> Tokens
     ensures { result ≡ flags_of 256 (tokens_of kind (words bytes.now)) }
 {
-    let count = words::word_count(bytes);
     let mut flags = [false; 256];
-    let mut k = 0;
-    while k < count {
+    for k in 0..words::word_count(bytes) {
         let w = words::word_at(bytes, k);
         if words::bits(w, 28, 4) == kind {
-            let t = format::number(w, 0, 8);
-            flags[t] = true;
+            flags[format::number(w, 0, 8)] = true;
         }
-        k += 1;
     }
     flags
 }

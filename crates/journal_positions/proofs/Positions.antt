@@ -1,6 +1,5 @@
 -- Laws of a reader's positions.
---     start_good, start_bytes_lem, start_word  where it starts, by the form
---     start_of_lem     and of a journal
+--     start_good, start_of_lem     where it starts: in a journal of good form, and in any journal
 --     size_part        what is shown at a position is the journal's part there
 --     size_fits        it is within the bytes
 --     size_shown       its length
@@ -10,31 +9,20 @@
 use mathlib.Core.Path.{◌≡◌, refl, sym, ap, ◌∙◌}
 use mathlib.Core.Bool.{Bool, true, false, cond}
 use mathlib.Core.List.{List, []}
-use Prim.Native.Nat.{ℕ, zero, suc, ◌+◌, ◌*◌, ◌-◌, ◌%◌, ◌<◌, ◌≤◌}
+use Prim.Native.Nat.{ℕ, zero, suc, ◌+◌, ◌*◌, ◌-◌, ◌%◌, ◌≤◌}
 use native.Mathlib.Omega.{arith}
 use lib.Dec.{eqb}
 use lib.ListN.{length, take, drop, length-drop}
 use lib.Seq.{length-take-le}
 use Rattle.words.specs.Word.{words}
-use Rattle.journal_form.specs.declared.Form.{Form}
-use Rattle.journal_form.specs.declared.Form.TheVariants.{Good, Bytes, Word}
-use Rattle.journal_form.specs.Form.{form_of}
+use Rattle.journal_form.specs.Form.{Form, Good, form_of}
 use Rattle.journal_instants.specs.Parts.{span, part_from, part_at}
 use Rattle.journal_instants.proofs.Parts.{span_fits}
 use Rattle.journal_positions.specs.Positions.{start_by, start_of, size_at, place_after}
 
 module _ (bytes : List ℕ) where
-  start_by_lem : {form g : Form} → form ≡ g → start_by g bytes ≡ start_by form bytes
-  start_by_lem e = ap (λ f. start_by f bytes) (sym e)
-
   pub start_good : {form : Form} → form ≡ Good → 0 ≡ start_by form bytes
-  start_good e = start_by_lem e
-
-  pub start_bytes_lem : {form : Form} → form ≡ Bytes → length bytes ≡ start_by form bytes
-  start_bytes_lem e = start_by_lem e
-
-  pub start_word : {form : Form} {k : ℕ} → form ≡ Word k → length bytes ≡ start_by form bytes
-  start_word e = start_by_lem e
+  start_good e = ap (λ f. start_by f bytes) (sym e)
 
   pub start_of_lem : (tokens : ℕ) {form : Form} → form ≡ form_of true tokens bytes → start_by form bytes ≡ start_of tokens bytes
   unfolding start_of
@@ -65,10 +53,9 @@ unfolding place_after
 place_here zero bytes at e = refl
 place_here (suc n) bytes at e = let f : at ≡ at + size_at bytes at = omega (arith, e) in place_here n bytes at e ∙ ap (place_after n bytes) f
 
-pub place_more : (n : ℕ) (bytes : List ℕ) (at : ℕ) → 0 < n → place_after n bytes at ≡ place_after (n - 1) bytes (at + size_at bytes at)
+pub place_more : (n m : ℕ) (bytes : List ℕ) (at : ℕ) → n ≡ suc m → place_after n bytes at ≡ place_after m bytes (at + size_at bytes at)
 unfolding place_after
-place_more zero bytes at h = absurd (omega arith)
-place_more (suc n) bytes at h = let e : n ≡ suc n - 1 = omega arith in ap (λ k. place_after k bytes (at + size_at bytes at)) e
+place_more n m bytes at e = rw e
 
 pub place_none : (n : ℕ) (bytes : List ℕ) (at : ℕ) → n ≡ 0 → at ≡ place_after n bytes at
 unfolding place_after

@@ -7,13 +7,11 @@
 --     place_of        the position of instant k
 use Rattle.std.specs.Prelude.{true, cond, List, ℕ, zero, suc, ◌+◌, ◌*◌, ◌%◌, eqb, length, take, drop}
 use Rattle.words.specs.Word.{words}
-use Rattle.journal_form.specs.declared.Form.{Form}
-use Rattle.journal_form.specs.declared.Form.TheVariants.{Good, Bytes, Word}
-use Rattle.journal_form.specs.Form.{form_of}
+use Rattle.journal_form.specs.Form.{Form, Good, Bytes, Word, form_of}
 use Rattle.journal_instants.specs.Parts.{span}
 
 abbrev pub start_by : Form → List ℕ → ℕ
-start_by Good bytes = 0
+start_by Good _ = 0
 start_by Bytes bytes = length bytes
 start_by (Word k) bytes = length bytes
 
@@ -27,7 +25,7 @@ abbrev pub shown_at : List ℕ → ℕ → List ℕ
 shown_at bytes at = take (size_at bytes at) (drop at bytes)
 
 unfoldable pub place_after : ℕ → List ℕ → ℕ → ℕ
-place_after zero bytes at = at
+place_after zero _ at = at
 place_after (suc n) bytes at = place_after n bytes (at + size_at bytes at)
 
 abbrev pub place_of : ℕ → ℕ → List ℕ → ℕ

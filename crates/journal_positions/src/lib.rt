@@ -20,9 +20,8 @@ pub fn start_of(journal: &[u8], form: Form) -> usize
     ensures { result ≡ start_by form journal.now }
 {
     match form {
-        Form::Good => 0,
-        Form::Bytes => journal.len(),
-        Form::Word(_) => journal.len(),
+        Ok(()) => 0,
+        Err(_) => journal.len(),
     }
 }
 
@@ -30,7 +29,7 @@ pub fn start_of(journal: &[u8], form: Form) -> usize
 pub fn part_at(journal: &[u8], at: usize) -> &[u8]
     ensures { result.now ≡ take (size_at journal.now at) (drop at journal.now) }
 {
-    journal_instants::part(journal, Form::Good, at)
+    journal_instants::part(journal, Ok(()), at)
 }
 
 // The position so many instants further on.
@@ -38,14 +37,12 @@ pub fn after(journal: &[u8], at: usize, instants: usize) -> usize
     ensures { result ≡ place_after instants journal.now at }
 {
     let mut place = at;
-    let mut left = instants;
-    while 0 < left {
+    for _ in 0..instants {
         let size = part_at(journal, place).len();
         if size == 0 {
             return place;
         }
         place += size;
-        left -= 1;
     }
     place
 }

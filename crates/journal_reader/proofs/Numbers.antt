@@ -13,9 +13,7 @@ use borrow.Author.Tests.{eqb-true}
 use lib.Dec.{eqb}
 use lib.ListN.{length, get_or}
 use Rattle.words.specs.Word.{words}
-use Rattle.journal_form.specs.declared.Form.{Form}
-use Rattle.journal_form.specs.declared.Form.TheVariants.{Good, Bytes, Word}
-use Rattle.journal_form.specs.Form.{may_follow, first_against, form_of}
+use Rattle.journal_form.specs.Form.{Form, Good, Bytes, Word, may_follow, first_against, form_of}
 use Rattle.journal_form.proofs.Against.{form_words}
 use Rattle.journal_reader.specs.Reading.{form_number, word_of}
 use Rattle.journal_reader.specs.Through.{Against, Meets, twelve, thirteen}

@@ -11,9 +11,7 @@ use lib.ListN.{length, get_or, take, drop, length-drop, drop_of_length-le, take-
 use lib.Seq.{drop-drop}
 use denote.Ref.{Bor}
 use Rattle.words.specs.Word.{words, word_at}
-use Rattle.journal_form.specs.declared.Form.{Form}
-use Rattle.journal_form.specs.declared.Form.TheVariants.{Good, Bytes, Word}
-use Rattle.journal_form.specs.Form.{is_instant, form_of}
+use Rattle.journal_form.specs.Form.{Form, Good, Bytes, Word, is_instant, form_of}
 use Rattle.journal_instants.specs.Instants.{instants_in}
 use Rattle.journal_instants.specs.Parts.{span}
 use Rattle.journal_instants.proofs.Parts.{instants_step, instants_end, part_starts, span_positive, starts_some, good_starts, good_four}

@@ -8,9 +8,7 @@
 --     moved_by       the reader, moved on by so many instants: its form is kept
 use Rattle.std.specs.Prelude.{true, List, ℕ}
 use Rattle.std.specs.Borrow.{Bor}
-use Rattle.journal_form.specs.declared.Form.{Form}
-use Rattle.journal_form.specs.declared.Form.TheVariants.{Good, Bytes, Word}
-use Rattle.journal_form.specs.Form.{form_of}
+use Rattle.journal_form.specs.Form.{Form, Good, Bytes, Word, form_of}
 use Rattle.journal_positions.specs.Positions.{start_of, place_after}
 use Rattle.journal_reader.specs.declared.Reader.{Reader}
 

@@ -13,8 +13,7 @@ use Rattle.std.specs.Prelude.{◌≡◌, true, false, ℕ, zero, suc, ◌%◌, �
 use mathlib.Core.List.{List, [], ◌∷◌, map, flatten}
 use Rattle.std.specs.Borrow.{Bor}
 use Rattle.words.specs.Word.{words}
-use Rattle.journal_form.specs.Form.{may_follow, form_of}
-use Rattle.journal_form.specs.declared.Form.TheVariants.{Good}
+use Rattle.journal_form.specs.Form.{Good, may_follow, form_of}
 use Rattle.journal_instants.specs.Instants.{instants_in}
 use Rattle.journal_positions.specs.Positions.{shown_at}
 use Rattle.journal_reader.specs.Reading.{form_number, word_of, made, moved_by}

@@ -12,15 +12,13 @@ use Rattle.format.specs.Decode.{sizes}
 use Rattle.lent.specs.States.{state_fault}
 use Rattle.journal_instants.specs.Instants.{instants_in, inputs_in, input_lists}
 use Rattle.journal_words.proofs.Counts.{instants_few}
-use Rattle.journal_step.specs.declared.Reply.{Reply}
+use Rattle.journal_step.specs.Reply.{Reply}
 use Rattle.journal_step.proofs.Replies.{Proper, unlawful, full, last, accepted, Replies, by_score, by_lengths, by_state, by_form_lem}
-use Rattle.journal_run_list.specs.declared.Stop.{Stop}
-use Rattle.journal_run_list.specs.declared.Stop.TheVariants.{Not, Next, Last, Room}
-use Rattle.journal_run_list.specs.Run.{Ran, run_from}
+use Rattle.journal_run_list.specs.Run.{MayStop, Not, Next, Last, Room, Ran, run_from}
 use Rattle.journal_run_list.proofs.Counts.{run_few}
 use Rattle.journal_run.specs.RunCall.{Lent, Exit, length_fault, kept, ending, exit}
 
-ending_proper : (score : List ℕ) (n : ℕ) (why : Stop) (k : ℕ) → k ≤ n → Proper score n (ending why k)
+ending_proper : (score : List ℕ) (n : ℕ) (why : MayStop) (k : ℕ) → k ≤ n → Proper score n (ending why k)
 ending_proper score n Not k h = accepted k h
 ending_proper score n Next k h = unlawful
 ending_proper score n Last k h = last k h

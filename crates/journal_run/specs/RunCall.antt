@@ -9,19 +9,18 @@
 --     RunCall          its contract
 use Rattle.std.specs.Prelude.{◌≡◌, Bool, false, cond, not, ◌||◌, List, ◌++◌, ℕ, ◌*◌, eqb, length, drop}
 use Rattle.format.specs.Decode.{sizes}
-use Rattle.check_verdicts.specs.Verdicts.{verdict_number}
+use Rattle.check_verdicts.specs.Verdicts.{by_verdict}
 use Rattle.check_score.specs.Check.{verdict}
 use Rattle.bits.specs.Bits.{bytes_of}
 use Rattle.lent.specs.Lengths.{state_bytes, scratch_bytes, no_scratch}
 use Rattle.lent.specs.States.{state_fault}
 use Rattle.journal_form.specs.Form.{form_of}
 use Rattle.journal_instants.specs.Instants.{input_lists}
-use Rattle.journal_step.specs.declared.Reply.{Reply}
-use Rattle.journal_step.specs.declared.Reply.TheVariants.{Score as Turned, Lengths, State, Unlawful, Full, Last as Past, Accepted}
+use Rattle.journal_step.specs.Reply.{Reply}
+use Rattle.refusals.specs.Refused.{Turned, Lengths, State, Next as Unlawful, Full, Last as Past}
+use Rattle.journal_step.specs.Reply.{Accepted}
 use Rattle.journal_step.specs.ByForm.{by_form}
-use Rattle.journal_run_list.specs.declared.Stop.{Stop}
-use Rattle.journal_run_list.specs.declared.Stop.TheVariants.{Not, Next, Last, Room}
-use Rattle.journal_run_list.specs.Run.{Ran, run_from}
+use Rattle.journal_run_list.specs.Run.{MayStop, Not, Next, Last, Room, Ran, run_from}
 
 pub record Lent : Type 0 where
   pub state : List ℕ
@@ -42,7 +41,7 @@ abbrev pub kept : Lent → Reply → Exit
 kept l r = record { lent = l; reply = r }
 
 -- the reply by the reason for the stop
-abbrev pub ending : Stop → ℕ → Reply
+abbrev pub ending : MayStop → ℕ → Reply
 ending Not n = Accepted n
 ending Next n = Unlawful
 ending Last n = Past n
@@ -57,7 +56,7 @@ ended l r =
 
 unfoldable pub exit : List ℕ → List ℕ → Lent → Exit
 exit score inputs l =
-    cond (not (eqb (verdict_number (verdict score)) 0)) (kept l (Turned (verdict score)))
+    by_verdict (verdict score) (λ f. kept l (Turned f))
     (cond (length_fault l) (kept l Lengths)
     (cond (state_fault (sizes score).agents l.state) (kept l State)
     (by_form (form_of false (sizes score).tokens inputs) (kept l)

@@ -2,21 +2,19 @@
 #![tactic(auto)]
 
 ghost use Rattle.std.specs.Prelude.{◌≡◌, false, cond, not, ◌||◌, eqb, length};
-ghost use Rattle.instant_prepared.specs.Prepared.{PreparedFrom};
 ghost use Rattle.format.specs.Decode.{sizes};
 ghost use Rattle.lent.specs.Lengths.{state_bytes, scratch_bytes, no_scratch};
 ghost use Rattle.lent.specs.States.{state_fault, numbered, LawfulState};
 ghost use Rattle.instant_state.specs.Standing.{state_in};
-ghost use Rattle.journal_form.specs.declared.Form.TheVariants.{Good};
-ghost use Rattle.journal_form.specs.Form.{form_of};
+ghost use Rattle.journal_form.specs.Form.{Good, form_of};
 ghost use Rattle.journal_instants.specs.Instants.{input_lists};
 ghost use Rattle.journal_run_list.specs.Run.{run_from};
 ghost use Rattle.journal_run.specs.RunCall.{lent, ending, LeftBy, RunCall};
 
 use instant_prepared::Prepared;
-use journal_form::Form;
 use journal_run_list::{Ended, Stop};
 use journal_step::Reply;
+use refusals::Refusal;
 
 // Runs a score over an input list, with lent buffers.
 pub fn call(
@@ -28,54 +26,39 @@ pub fn call(
 ) -> Reply
     ensures { RunCall score.now inputs.now (lent state.old journal.old scratch.old) (lent state.new journal.new scratch.new) result }
 {
-    let verdict = check_score::check(score);
-    if check_verdicts::number_of(verdict) != 0 {
-        return Reply::Score(verdict);
-    }
+    check_score::check(score)?;
     if wrong_length(state.len(), scratch.len()) {
-        return Reply::Lengths;
+        return Err(Refusal::Lengths);
     }
     let prepared = instant_prepared::prepare(score);
-    let head = instant_prepared::sizes(&prepared);
-    if lent::state_fault(state, head.agents) {
-        return Reply::State;
+    if lent::state_fault(state, prepared.agents()) {
+        return Err(Refusal::State);
     }
-    match journal_form::form_of(inputs, head.tokens, false) {
-        Form::Bytes => Reply::Bytes,
-        Form::Word(k) => Reply::Word(k),
-        Form::Good => {
-            bits::clear(scratch);
-            run_from(score, &prepared, state, inputs, journal, scratch)
-        }
-    }
+    journal_form::form_of(inputs, prepared.tokens(), false)?;
+    bits::clear(scratch);
+    run_from(&prepared, state, inputs, journal, scratch)
 }
 
 // Runs a list of good form from a lawful state.
 fn run_from(
-    score: &[u8],
     prepared: &Prepared,
     state: &mut [u8],
     inputs: &[u8],
     journal: &mut [u8],
     scratch: &mut [u8],
 ) -> Reply
-    requires prepared_from { PreparedFrom score.now prepared.now }
     requires state_len { length state.old ≡ state_bytes }
-    requires state_value { state_fault (sizes score.now).agents state.old ≡ false }
-    requires inputs_value { form_of false (sizes score.now).tokens inputs.now ≡ Good }
+    requires state_value { state_fault (sizes prepared.now.bytes.now).agents state.old ≡ false }
+    requires inputs_value { form_of false (sizes prepared.now.bytes.now).tokens inputs.now ≡ Good }
     requires scratch_value { scratch.old ≡ no_scratch }
-    ensures left_by { LeftBy (run_from score.now state.old (length journal.old) (input_lists inputs.now)) journal.old state.new journal.new result }
+    ensures left_by { LeftBy (run_from prepared.now.bytes.now state.old (length journal.old) (input_lists inputs.now)) journal.old state.new journal.new result }
     ensures scratch_after { scratch.new ≡ no_scratch }
 {
-    let head = instant_prepared::sizes(prepared);
     let standing = instant_state::standing_in(state);
     let number = lent::number_in(state);
-    let ended = journal_run_list::run_list(
-        score, prepared, standing, number, inputs, journal, scratch,
-    );
-    keep(state, head.agents, ended);
-    let stop = ended.stop;
-    reply_of(stop, ended.instants)
+    let ended = journal_run_list::run_list(prepared, standing, number, inputs, journal, scratch);
+    keep(prepared, state, ended);
+    reply_of(ended.stop, ended.instants)
 }
 
 // Whether a buffer has another length than it should.
@@ -86,26 +69,25 @@ fn wrong_length(state: usize, scratch: usize) -> bool
 }
 
 // The reply by the reason for the stop.
-fn reply_of(stop: Stop, instants: usize) -> Reply
+fn reply_of(stop: Result<(), Stop>, instants: usize) -> Reply
     ensures { result ≡ ending stop instants }
 {
     match stop {
-        Stop::Not => Reply::Accepted(instants),
-        Stop::Next => Reply::Unlawful,
-        Stop::Last => Reply::Last(instants),
-        Stop::Room => Reply::Full(instants),
+        Ok(()) => Ok(instants),
+        Err(Stop::Next) => Err(Refusal::Next),
+        Err(Stop::Last) => Err(Refusal::Last(instants)),
+        Err(Stop::Room) => Err(Refusal::Full(instants)),
     }
 }
 
 // Writes the state after a run that wrote an instant.
-fn keep(state: &mut [u8], agents: usize, ended: Ended)
+fn keep(prepared: &Prepared, state: &mut [u8], ended: Ended)
     requires state_len { length state.old ≡ state_bytes }
-    requires lawful_state { LawfulState agents (state_in ended.standing) }
+    requires lawful_state { LawfulState (sizes prepared.now.bytes.now).agents (state_in ended.standing) }
     ensures { state.new ≡ cond (eqb ended.instants 0) state.old (numbered (state_in ended.standing) ended.number) }
 {
     if ended.instants == 0 {
         return;
     }
-    let standing = ended.standing;
-    instant_state::write_standing(state, agents, standing, ended.number);
+    instant_state::write_standing(state, prepared.agents(), ended.standing, ended.number);
 }

@@ -14,9 +14,7 @@ use Rattle.lent.specs.States.{instant_number, next_bytes, last_number, SameButNu
 use Rattle.lent.proofs.Numbered.{state_aside, numbered_alike, next_number}
 use Rattle.journal_words.specs.History.{entry}
 use Rattle.journal_step.specs.AnswerIn.{answer_in}
-use Rattle.journal_run_list.specs.declared.Stop.{Stop}
-use Rattle.journal_run_list.specs.declared.Stop.TheVariants.{Not, Next, Last, Room}
-use Rattle.journal_run_list.specs.Run.{stop_at, Ran, stopped, unless_stopped, run_from}
+use Rattle.journal_run_list.specs.Run.{MayStop, Not, Next, Last, Room, stop_at, Ran, stopped, unless_stopped, run_from}
 
 pub record Alike (r t : Ran) : Type 0 where
   pub words : r.words ≡ t.words
@@ -45,10 +43,10 @@ module _ (score : List ℕ) where
       words : List ℕ
       words = entry (decode score) inputs a
 
-      stops : (why : Stop) → Alike (stopped s why) (stopped t why)
+      stops : (why : MayStop) → Alike (stopped s why) (stopped t why)
       stops why = record { words = refl; state = same; instants = refl; stop = refl }
 
-      go : (why : Stop) (r r' : Ran) → Alike r r' → Alike (unless_stopped why s words r) (unless_stopped why t words r')
+      go : (why : MayStop) (r r' : Ran) → Alike r r' → Alike (unless_stopped why s words r) (unless_stopped why t words r')
       go Not r r' rest = record { words = ap (λ l. words ++ l) rest.words; state = rest.state; instants = ap suc rest.instants; stop = rest.stop }
       go Next r r' rest = stops Next
       go Last r r' rest = stops Last

@@ -8,9 +8,7 @@ use Rattle.format.specs.Decode.{decode}
 use Rattle.lent.specs.States.{next_bytes, at_last}
 use Rattle.journal_words.specs.History.{entry}
 use Rattle.journal_step.specs.AnswerIn.{answer_in}
-use Rattle.journal_run_list.specs.declared.Stop.{Stop}
-use Rattle.journal_run_list.specs.declared.Stop.TheVariants.{Not, Next, Last, Room}
-use Rattle.journal_run_list.specs.Run.{Ran, stop_at, unless_stopped, run_from}
+use Rattle.journal_run_list.specs.Run.{MayStop, Not, Next, Last, Room, Ran, stop_at, unless_stopped, run_from}
 
 pub run_few : (score state : List ℕ) (room : ℕ) (l : List (List ℕ)) → (run_from score state room l).instants ≤ length l
 unfolding run_from
@@ -20,7 +18,7 @@ run_few score state room (inputs ∷ more) =
     let e = entry (decode score) inputs a in
     go (stop_at score (at_last state) a (4 * length e) room) e (run_from score (next_bytes state a) (room - 4 * length e) more) (run_few score (next_bytes state a) (room - 4 * length e) more)
   where
-    go : (why : Stop) (e : List ℕ) (r : Ran) → r.instants ≤ length more → (unless_stopped why state e r).instants ≤ suc (length more)
+    go : (why : MayStop) (e : List ℕ) (r : Ran) → r.instants ≤ length more → (unless_stopped why state e r).instants ≤ suc (length more)
     go Not e r h = omega arith
     go Next e r h = omega arith
     go Last e r h = omega arith

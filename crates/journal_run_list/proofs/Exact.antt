@@ -13,15 +13,13 @@ use Rattle.lent.specs.States.{next_bytes, at_last}
 use Rattle.journal_words.specs.History.{entry, history, RisingBelow}
 use Rattle.journal_step.specs.AnswerIn.{answer_in}
 use Rattle.journal_step.proofs.Stands.{Stands, instant_entry, instant_stands}
-use Rattle.journal_run_list.specs.declared.Stop.{Stop}
-use Rattle.journal_run_list.specs.declared.Stop.TheVariants.{Not, Next, Last, Room}
-use Rattle.journal_run_list.specs.Run.{stop_at, Ran, unless_stopped, run_from}
+use Rattle.journal_run_list.specs.Run.{MayStop, Not, Next, Last, Room, stop_at, Ran, unless_stopped, run_from}
 
 module _ (score : List ℕ) (law : Lawful (decode score)) (counted : length (decode score).agents ≡ (sizes score).agents) where
   pub run_history : (lists : List (List ℕ)) → Within (RisingBelow (decode score).tokens) lists → (state : List ℕ) (st : State) → Stands score law counted state st → (room : ℕ) →
       (run_from score state room lists).words ≡ history (decode score) st (take (run_from score state room lists).instants lists)
   unfolding run_from history
-  run_history [] rising state st stands room = refl
+  run_history [] rising state st stands _ = refl
   run_history (inputs ∷ more) rising state st stands room =
       go (stop_at score (at_last state) a (4 * length words) room) (run_from score (next_bytes state a) (room - 4 * length words) more)
       (run_history more (λ l m. rising l (Memᴰ.tail m)) (next_bytes state a) (after b) (instant_stands score law counted stands inputs (rising inputs (Memᴰ.head refl))) (room - 4 * length words))
@@ -35,7 +33,7 @@ module _ (score : List ℕ) (law : Lawful (decode score)) (counted : length (dec
       words : List ℕ
       words = entry (decode score) inputs a
 
-      go : (stop : Stop) (r : Ran) → r.words ≡ history (decode score) (after b) (take r.instants more) →
+      go : (stop : MayStop) (r : Ran) → r.words ≡ history (decode score) (after b) (take r.instants more) →
           (unless_stopped stop state words r).words ≡ history (decode score) st (take (unless_stopped stop state words r).instants (inputs ∷ more))
       go Not r rest = ap₂ ◌++◌ (instant_entry score law counted stands inputs) rest
       go Next r rest = refl

@@ -4,3 +4,4 @@ pub mod Counts
 pub mod Exact
 pub mod Numbers
 pub mod Aside
+pub mod Turns

@@ -15,9 +15,7 @@ use Rattle.lent.specs.States.{instant_number, next_bytes, last_number, at_last}
 use Rattle.lent.proofs.Numbered.{next_number}
 use Rattle.journal_words.specs.History.{entry}
 use Rattle.journal_step.specs.AnswerIn.{answer_in}
-use Rattle.journal_run_list.specs.declared.Stop.{Stop}
-use Rattle.journal_run_list.specs.declared.Stop.TheVariants.{Not, Next, Last, Room}
-use Rattle.journal_run_list.specs.Run.{stop_at, Ran, unless_stopped, run_from}
+use Rattle.journal_run_list.specs.Run.{MayStop, Not, Next, Last, Room, stop_at, Ran, unless_stopped, run_from}
 use Rattle.journal_run_list.proofs.Took.{not_last, only_last, not_full}
 
 pub record Reaches (n : ℕ) (r : Ran) : Type 0 where
@@ -44,7 +42,7 @@ module _ (score : List ℕ) where
       below : at_last state ≡ false → instant_number state < last_number
       below e = let ne : instant_number state ≡ last_number → ⊥ = eqb-false (instant_number state) last_number e in omega arith
 
-      go : (stop : Stop) → (stop ≡ Not → at_last state ≡ false) → (stop ≡ Last → at_last state ≡ true) → (stop ≡ Room → at_last state ≡ false) →
+      go : (stop : MayStop) → (stop ≡ Not → at_last state ≡ false) → (stop ≡ Last → at_last state ≡ true) → (stop ≡ Room → at_last state ≡ false) →
           (r : Ran) → (instant_number (next_bytes state a) ≤ last_number → Reaches (instant_number (next_bytes state a)) r) → Reaches (instant_number state) (unless_stopped stop state words r)
       go Not written last full r rest =
           let next = next_number state a (below (written refl)) in

@@ -28,12 +28,13 @@ use Rattle.instant_state.specs.declared.Standing.{Standing}
 use Rattle.journal_instants.specs.Instants.{input_lists}
 use Rattle.journal_words.specs.History.{entry}
 use Rattle.journal_step.specs.AnswerIn.{answer_in}
+use Rattle.std.specs.Prelude.{Err}
 use Rattle.journal_run_list.specs.declared.Stop.{Stop}
-use Rattle.journal_run_list.specs.declared.Stop.TheVariants.{Not, Next, Last, Room}
+use Rattle.journal_run_list.specs.declared.Stop.TheVariants as Why
 use Rattle.journal_run_list.specs.declared.Taken.{Taken}
 use Rattle.journal_run_list.specs.declared.Ended.{Ended}
-use Rattle.journal_run_list.specs.Run.{stop_at, Ran, stopped, preceded, unless_stopped, run_from}
-use Rattle.journal_run_list.specs.Advance.{Advanced, RanTo}
+use Rattle.journal_run_list.specs.Run.{MayStop, Not, stop_at, Ran, stopped, preceded, unless_stopped, run_from}
+use Rattle.journal_run_list.specs.Advance.{Wrote, Refused, RanTo}
 
 abbrev pub behind : List ℕ → ℕ → Ran → Ran
 behind ws n r = record { words = ws ++ r.words; state = r.state; instants = n + r.instants; stop = r.stop }
@@ -95,19 +96,21 @@ behind_more ws e n r =
     let i : n + suc r.instants ≡ n + 1 + r.instants = omega arith in
     λ k. record { words = sym (append_assoc ws e r.words) k; state = r.state; instants = i k; stop = r.stop }
 
-behind_stopped : (ws state : List ℕ) (n : ℕ) (why : Stop) → behind ws n (stopped state why) ≡ record { words = ws; state = state; instants = n; stop = why }
+behind_stopped : (ws state : List ℕ) (n : ℕ) (why : MayStop) → behind ws n (stopped state why) ≡ record { words = ws; state = state; instants = n; stop = why }
 behind_stopped ws state n why =
     let i : n + 0 ≡ n = omega arith in
     λ k. record { words = append-nil ws k; state = state; instants = i k; stop = why }
 
-unless_not : {stop : Stop} (state e : List ℕ) (r : Ran) → stop ≡ Not → unless_stopped stop state e r ≡ preceded e r
+unless_not : {stop : MayStop} (state e : List ℕ) (r : Ran) → stop ≡ Not → unless_stopped stop state e r ≡ preceded e r
 unless_not state e r q = ap (λ x. unless_stopped x state e r) q
 
-unless_stopped_lem : (stop : Stop) (state e : List ℕ) (r : Ran) → (stop ≡ Not → ⊥) → unless_stopped stop state e r ≡ stopped state stop
-unless_stopped_lem Not state e r q = absurd (q refl)
-unless_stopped_lem Next state e r q = refl
-unless_stopped_lem Last state e r q = refl
-unless_stopped_lem Room state e r q = refl
+unless_stopped_lem : {stop : MayStop} (why : Stop) (state e : List ℕ) (r : Ran) → stop ≡ Err why → unless_stopped stop state e r ≡ stopped state (Err why)
+unless_stopped_lem why state e r q = ap (λ x. unless_stopped x state e r) q ∙ go why
+  where
+    go : (w : Stop) → unless_stopped (Err w) state e r ≡ stopped state (Err w)
+    go Why.Next = refl
+    go Why.Last = refl
+    go Why.Room = refl
 
 module _ (score inputs s₀ j₀ journal : List ℕ) (stands : Standing) (number n at filled : ℕ) (half : Half score inputs s₀ j₀ journal stands number n at filled) where
   ended_as : (journal' : List ℕ) (e : Ended) → journal' ≡ journal → e.instants ≡ n → e.standing ≡ stands → e.number ≡ number → LawfulState (sizes score).agents (state_in stands) →
@@ -147,21 +150,21 @@ module _ (score inputs s₀ j₀ journal : List ℕ) (stands : Standing) (number
         ∙ ap₂ (λ x m. unless_stopped (stop_at score (eqb m last_number) x (4 * length (entry (decode score) told x)) (length j₀ - filled)) half.state (entry (decode score) told x)
         (run_from score (next_bytes half.state x) (length j₀ - filled - 4 * length (entry (decode score) told x)) (input_lists more_bytes))) answer_is half.number_is
 
-    module _ (room : List ℕ) (long : length room ≡ length j₀ - filled) (room' : List ℕ) (t : Taken) (took : Advanced score (eqb number last_number) a words_of room room' t) where
-      stop_is : stop_at score (eqb number last_number) a (4 * length words_of) (length j₀ - filled) ≡ t.stop
-      stop_is = ap (stop_at score (eqb number last_number) a (4 * length words_of)) (sym long) ∙ sym took.stop_is
+    module _ (room : List ℕ) (long : length room ≡ length j₀ - filled) (room' : List ℕ) where
+      stop_as : {stop : MayStop} → stop_at score (eqb number last_number) a (4 * length words_of) (length room) ≡ stop → stop_at score (eqb number last_number) a (4 * length words_of) (length j₀ - filled) ≡ stop
+      stop_as e = ap (stop_at score (eqb number last_number) a (4 * length words_of)) (sym long) ∙ e
 
-      pub half_more : room ≡ drop filled journal → t.stop ≡ Not → (more : ℕ) → drop more inputs ≡ more_bytes → SameState (state_of (as_bytes (after a))) (after a) → number < last_number →
+      pub half_more : room ≡ drop filled journal → (t : Taken) → Wrote score (eqb number last_number) a words_of room room' t → (more : ℕ) → drop more inputs ≡ more_bytes → SameState (state_of (as_bytes (after a))) (after a) → number < last_number →
           Half score inputs s₀ j₀ (take filled journal ++ room') t.standing (number + 1) (n + 1) more (filled + t.bytes)
-      half_more r q more d s' below = record {
+      half_more r t took more d s' below = record {
         words = half.words ++ words_of;
         state = next_bytes half.state a;
         whole = half.whole
-            ∙ ap (behind half.words n) (from_here ∙ unless_not half.state words_of _ (stop_is ∙ q))
+            ∙ ap (behind half.words n) (from_here ∙ unless_not half.state words_of _ (stop_as took.not_stopped))
             ∙ behind_more half.words words_of n _
             ∙ ap₂ (λ m l. behind (half.words ++ words_of) (n + 1) (run_from score (next_bytes half.state a) m (input_lists l))) bytes (sym d);
         filled_is = ap₂ ◌+◌ half.filled_is took.bytes_are ∙ length_four;
-        journal_is = ap (λ l. take filled journal ++ l) (took.written q ∙ ap (λ l. bytes_of words_of ++ drop (4 * length words_of) l) r) ∙ put_behind half.words words_of j₀ journal filled half.filled_is half.journal_is;
+        journal_is = ap (λ l. take filled journal ++ l) (took.written ∙ ap (λ l. bytes_of words_of ++ drop (4 * length words_of) l) r) ∙ put_behind half.words words_of j₀ journal filled half.filled_is half.journal_is;
         stands_for = numbered_state (after a) (suc (instant_number half.state)) ∙ sym took.stands;
         number_is = number_round (after a) (suc (instant_number half.state)) (omega (arith, half.number_is)) ∙ next;
         state_is = counted n s₀ (next_bytes half.state a) ∙ ap (λ x. cond (eqb (n + 1) 0) s₀ x) (ap (numbered (after a)) next ∙ sym (ap (λ st. numbered st (number + 1)) took.stands ∙ numbered_same _ _ (number + 1) s'));
@@ -176,8 +179,9 @@ module _ (score inputs s₀ j₀ journal : List ℕ) (stands : Standing) (number
           length_four : 4 * length half.words + 4 * length words_of ≡ 4 * length (half.words ++ words_of)
           length_four = omega (arith, length-append half.words words_of)
 
-      pub half_stopped : room ≡ drop filled journal → (t.stop ≡ Not → ⊥) → (e : Ended) → e.stop ≡ t.stop → e.instants ≡ n → e.standing ≡ stands → e.number ≡ number → LawfulState (sizes score).agents (state_in stands) →
+      pub half_stopped : room ≡ drop filled journal → (why : Stop) → Refused score (eqb number last_number) a words_of room room' why →
+          (e : Ended) → e.stop ≡ Err why → e.instants ≡ n → e.standing ≡ stands → e.number ≡ number → LawfulState (sizes score).agents (state_in stands) →
           RanTo score s₀ j₀ (take filled journal ++ room') (run_from score s₀ (length j₀) (input_lists inputs)) e
-      half_stopped r q e why i st m law =
-          ended_as _ e (ap (λ l. take filled journal ++ l) (took.kept q ∙ r) ∙ take-append-drop filled journal) i st m law
-          (from_here ∙ unless_stopped_lem _ half.state words_of _ (λ z. q (sym stop_is ∙ z)) ∙ ap (stopped half.state) (stop_is ∙ sym why))
+      half_stopped r why took e is i st m law =
+          ended_as _ e (ap (λ l. take filled journal ++ l) (took.kept ∙ r) ∙ take-append-drop filled journal) i st m law
+          (from_here ∙ unless_stopped_lem why half.state words_of _ (stop_as took.stop_is) ∙ ap (stopped half.state) (sym is))

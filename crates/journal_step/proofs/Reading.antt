@@ -13,8 +13,7 @@ use native.Mathlib.Omega.{arith}
 use lib.ListN.{length, drop, length-drop}
 use lib.Seq.{drop-drop}
 use Rattle.words.specs.Word.{words, word_at}
-use Rattle.journal_form.specs.declared.Form.TheVariants.{Good}
-use Rattle.journal_form.specs.Form.{is_instant, form_of}
+use Rattle.journal_form.specs.Form.{Good, is_instant, form_of}
 use Rattle.journal_instants.specs.Instants.{instants_in, inputs_in, input_lists}
 use Rattle.journal_instants.specs.Parts.{span, part_from, part_at}
 use Rattle.journal_instants.proofs.Parts.{instants_step, part_starts, part_length, part_on, span_fits, span_positive, starts_some, good_starts, good_four, instants_end}

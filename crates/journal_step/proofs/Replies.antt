@@ -4,26 +4,27 @@
 --     by_score, by_lengths, by_state     through these stages
 --     by_form_lem      and through that of the form, where n is the whole words of the list or journal
 use mathlib.Core.Path.{◌≡◌, refl, subst⁻¹}
-use mathlib.Core.Bool.{Bool, cond, not}
+use mathlib.Core.Bool.{Bool, cond}
 use mathlib.Core.List.{List}
 use Prim.Native.Nat.{ℕ, ◌/◌, ◌≤◌}
 use native.Mathlib.Omega.{arith}
-use lib.Dec.{eqb}
 use lib.ListN.{length}
 use Rattle.laws.proofs.Booleans.{either}
 use Rattle.words.proofs.Words.{words_length}
-use Rattle.check_verdicts.specs.Verdicts.{verdict_number}
+use Rattle.std.proofs.Common.{Err}
+use Rattle.check_verdicts.specs.declared.Fault.{Fault}
+use Rattle.check_verdicts.specs.Verdicts.{by_verdict}
+use Rattle.refusals.proofs.ByVerdict.{by_fault}
 use Rattle.check_score.specs.Check.{verdict}
-use Rattle.journal_form.specs.declared.Form.{Form}
-use Rattle.journal_form.specs.declared.Form.TheVariants.{Good, Bytes as NotWhole, Word as Wrong}
-use Rattle.journal_form.specs.Form.{form_of}
+use Rattle.journal_form.specs.Form.{Form, Good, Bytes as NotWhole, Word as Wrong, form_of}
 use Rattle.journal_words.proofs.Counts.{against_few}
-use Rattle.journal_step.specs.declared.Reply.{Reply}
-use Rattle.journal_step.specs.declared.Reply.TheVariants.{Score as Turned, Lengths, State, Unlawful, Bytes, Word, Differs, Full, Last, Accepted}
+use Rattle.journal_step.specs.Reply.{Reply}
+use Rattle.refusals.specs.Refused.{Turned, Lengths, State, Next as Unlawful, Bytes, Word, Differs, Full, Last}
+use Rattle.journal_step.specs.Reply.{Accepted}
 use Rattle.journal_step.specs.ByForm.{by_form}
 
 pub data Proper (score : List ℕ) (n : ℕ) : Reply → Type 0 where
-  turned : Proper score n (Turned (verdict score))
+  turned : (f : Fault) → verdict score ≡ Err f → Proper score n (Turned f)
   lengths : Proper score n Lengths
   no_state : Proper score n State
   unlawful : Proper score n Unlawful
@@ -43,8 +44,8 @@ module _ {E : Type 0} (reply : E → Reply) (score : List ℕ) (n : ℕ) where
     replies : {r : Reply} → Proper score n r → Replies (down r)
     replies {r} p = record { proper = subst⁻¹ (Proper score n) (is r) p }
 
-    pub by_score : {on : E} → Replies on → Replies (cond (not (eqb (verdict_number (verdict score)) 0)) (down (Turned (verdict score))) on)
-    by_score h = either Replies (not (eqb (verdict_number (verdict score)) 0)) (replies turned) h
+    pub by_score : {on : E} → Replies on → Replies (by_verdict (verdict score) (λ f. down (Turned f)) on)
+    by_score h = by_fault Replies (verdict score) (λ f e. replies (turned f e)) (λ e. h)
 
     pub by_lengths : (fault : Bool) {on : E} → Replies on → Replies (cond fault (down Lengths) on)
     by_lengths fault h = either Replies fault (replies lengths) h

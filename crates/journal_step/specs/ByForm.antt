@@ -1,9 +1,8 @@
 -- Numbers 12 and 13: a list or journal is turned down by its form before its first instant.
 --     by_form        how a call whose exits are of any type leaves, or goes on
-use Rattle.journal_form.specs.declared.Form.{Form}
-use Rattle.journal_form.specs.declared.Form.TheVariants.{Good, Bytes, Word}
-use Rattle.journal_step.specs.declared.Reply.{Reply}
-use Rattle.journal_step.specs.declared.Reply.TheVariants.{Bytes as NoWords, Word as Against}
+use Rattle.journal_form.specs.Form.{Form, Good, Bytes, Word}
+use Rattle.journal_step.specs.Reply.{Reply}
+use Rattle.refusals.specs.Refused.{Bytes as NoWords, Word as Against}
 
 abbrev pub by_form : {E : Type 0} → Form → (Reply → E) → E → E
 by_form Good down on = on

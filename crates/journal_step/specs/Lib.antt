@@ -1,3 +1,4 @@
 pub mod AnswerIn
+pub mod Reply
 pub mod ByForm
 pub mod Stepped

@@ -9,8 +9,7 @@ use native.Mathlib.Omega.{arith}
 use lib.Dec.{eqb}
 use lib.ListN.{length}
 use Rattle.words.specs.Word.{words}
-use Rattle.journal_form.specs.declared.Form.TheVariants.{Bytes, Word}
-use Rattle.journal_form.specs.Form.{is_instant, may_follow, first_against, form_of}
+use Rattle.journal_form.specs.Form.{Bytes, Word, is_instant, may_follow, first_against, form_of}
 use Rattle.journal_instants.specs.Instants.{up_to, instants_in}
 
 first_few : (journal : Bool) (T k last : ℕ) (ws : List ℕ) (i : ℕ) → first_against journal T k last ws ≡ Word i → i < k + length ws

@@ -19,8 +19,7 @@ use Rattle.words.specs.Word.{words, field, kind}
 use Rattle.format.specs.Format.{is_word}
 use Rattle.bits.specs.Bits.{bytes_of}
 use Rattle.bits.proofs.Bytes.{bytes_of_length, words_bytes}
-use Rattle.journal_form.specs.declared.Form.TheVariants.{Good}
-use Rattle.journal_form.specs.Form.{token_of, status_in, is_instant, rises, may_follow, first_against, form_of}
+use Rattle.journal_form.specs.Form.{Good, token_of, status_in, is_instant, rises, may_follow, first_against, form_of}
 use Rattle.journal_instants.specs.Instants.{up_to, instants_in, tokens_of, inputs_in}
 use Rattle.journal_words.specs.History.{instant_word, input_word, output_word, instant_words, RisingBelow}
 use Rattle.journal_words.proofs.Forms.{words_of, of_another, up_to_instant, up_to_another, WellFormed, good_whole, good_words, good_instants}

@@ -28,8 +28,7 @@ use Rattle.laws.proofs.Sets.{Within, on_cons, on_map, on_keep}
 use Rattle.words.specs.Word.{joined, words, field, kind}
 use Rattle.format.specs.Format.{clear, is_word}
 use Rattle.bits.specs.Bits.{bytes_of}
-use Rattle.journal_form.specs.declared.Form.TheVariants.{Good, Bytes, Word}
-use Rattle.journal_form.specs.Form.{token_of, status_in, is_instant, rises, may_follow, first_against, form_of}
+use Rattle.journal_form.specs.Form.{Good, Bytes, Word, token_of, status_in, is_instant, rises, may_follow, first_against, form_of}
 use Rattle.journal_instants.specs.Instants.{up_to, instants_in, tokens_of, inputs_in, input_lists}
 use Rattle.journal_words.specs.History.{instant_word, instant_words, RisingBelow}
 use Rattle.journal_words.specs.Formed.{Formed}

@@ -21,8 +21,7 @@ use Rattle.tcc.proofs.Output.{output_same}
 use Rattle.tcc.proofs.Status.{answer_status}
 use Rattle.words.specs.Word.{words}
 use Rattle.bits.specs.Bits.{bytes_of}
-use Rattle.journal_form.specs.declared.Form.TheVariants.{Good}
-use Rattle.journal_form.specs.Form.{form_of}
+use Rattle.journal_form.specs.Form.{Good, form_of}
 use Rattle.journal_instants.specs.Instants.{instants_in, inputs_in, input_lists}
 use Rattle.journal_words.specs.History.{instant_words, entry, history, RisingBelow}
 use Rattle.journal_words.proofs.Rising.{output_rising}

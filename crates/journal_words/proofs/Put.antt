@@ -1,6 +1,7 @@
 -- Laws of words put into a journal.
 --     listed         the words of a kind for the tokens flagged below t
 --     listed_more, listed_same       put token by token
+--     listed_all     put for all tokens
 --     instant_length     an instant's words: one, and one for each token
 --     instant_put        put in three parts, they stand at the front
 use mathlib.Core.Path.{◌≡◌, refl, sym, ap, ap₂, ◌∙◌}
@@ -35,6 +36,9 @@ module _ (from kind : ℕ) (flags : List Bool) (t : ℕ) (s : List ℕ) where
 
   pub listed_same : get_or flags t false ≡ false → put from (listed kind flags t) s ≡ put from (listed kind flags (t + 1)) s
   listed_same clear = ap (λ l. put from (map (λ u. kind * 2 ^ 28 + u) l) s) (sym (kept_step flags t false clear ∙ append-nil (kept flags t)))
+
+  pub listed_all : (l : List ℕ) → kept flags t ≡ l → put from (listed kind flags t) s ≡ take (4 * from) s ++ bytes_of (map (λ u. kind * 2 ^ 28 + u) l) ++ drop (4 * (from + length l)) s
+  listed_all l e = rw (e, length-map l (λ u. kind * 2 ^ 28 + u))
 
 pub instant_length : (status : ℕ) (inputs outputs : List ℕ) → length (instant_words status inputs outputs) ≡ 1 + length inputs + length outputs
 unfolding instant_words

@@ -26,23 +26,23 @@ pub const ABORTED: u32 = 0xF000_0001;
 pub const LAST_NUMBER: u32 = 0xFFFF_FFFF;
 
 // The agents awake in a state, as flags.
+#[tactic(auto, using(words::proofs::Words::words_length))]
 pub fn read_agents(state: &[u8]) -> Agents
     requires { unnumbered_bytes ≤ length state.now }
     ensures { result ≡ flags_of 1024 (agents_in state.now) }
 {
     let mut flags = [false; 1024];
-    let mut k = 0;
-    while k < 32 {
+    for k in 0..32 {
         let w = words::word_at(state, 1 + k);
         if w != 0 {
             bits::spread(&mut flags, 32 * k, w, 32);
         }
-        k += 1;
     }
     flags
 }
 
 // How many instants were run since the start, by a state.
+#[tactic(auto, using(words::proofs::Words::words_length), unfolding(crate::specs::States::instant_number))]
 pub fn number_in(state: &[u8]) -> u32
     requires { length state.now ≡ state_bytes }
     ensures { result ≡ instant_number state.now }
@@ -67,11 +67,9 @@ pub fn write_unnumbered(state: &mut [u8], first: u32, agents: usize, awake: Agen
     ensures { state.new ≡ bytes_of (first ∷ agent_words (set_of awake)) ++ drop unnumbered_bytes state.old }
 {
     bits::put_word(state, 0, first);
-    let mut k = 0;
-    while k < 32 {
+    for k in 0..32 {
         let w = bits::gather(&awake, agents, 32 * k, 32);
         bits::put_word(state, 1 + k, w);
-        k += 1;
     }
 }
 
@@ -84,31 +82,28 @@ pub fn write_number(state: &mut [u8], number: u32)
 }
 
 // Whether bytes are no state of a score with so many agents.
+#[tactic(auto, using(words::proofs::Words::words_length))]
 pub fn state_fault(state: &[u8], agents: usize) -> bool
     requires { unnumbered_bytes ≤ length state.now }
     ensures { result ≡ state_fault agents state.now }
 {
-    let first = words::word_at(state, 0);
-    if first == RUNNING {
-        agent_from(state, agents)
-    } else if first == ABORTED {
-        agent_from(state, 0)
-    } else {
-        true
+    match words::word_at(state, 0) {
+        RUNNING => agent_from(state, agents),
+        ABORTED => agent_from(state, 0),
+        _ => true,
     }
 }
 
 // Whether an agent from a number on is awake in a state.
+#[tactic(auto, using(words::proofs::Words::words_length))]
 fn agent_from(state: &[u8], from: usize) -> bool
     requires { unnumbered_bytes ≤ length state.now }
     ensures { result ≡ any (λ i. leb from i) (agents_in state.now) }
 {
     let mut found = false;
-    let mut k = 0;
-    while k < 32 {
+    for k in 0..32 {
         let word = words::word_at(state, 1 + k);
-        found = found | bits::bit_from(word, 32 * k, from);
-        k += 1;
+        found |= bits::bit_from(word, 32 * k, from);
     }
     found
 }

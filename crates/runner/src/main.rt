@@ -35,7 +35,8 @@ fn read_file(rt: &impl Files, path: &str, buf: &mut [u8]) -> usize
     }
 }
 
-// A read that fails leaves no bytes, also half way.
+// A read that fails leaves no bytes, also half way. By `read`: of what came before a failure `read_exact` and `read_to_end`
+// promise little, and no count of bytes.
 fn read_all(file: &mut impl Read, buf: &mut [u8]) -> usize
     ensures { IsPrefixLen result buf.new }
 {
@@ -52,11 +53,8 @@ fn read_all(file: &mut impl Read, buf: &mut [u8]) -> usize
 
 // Prints the words of a journal that was written over zeros.
 fn print_journal(rt: &impl Print, journal: &[u8]) -> io::Result<()> {
-    let count = runner_text::shown_words(journal);
-    let mut k = 0;
-    while k < count {
+    for k in 0..runner_text::shown_words(journal) {
         print_line(rt, words::word_at(journal, k))?;
-        k += 1;
     }
     Ok(())
 }

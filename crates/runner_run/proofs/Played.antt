@@ -1,12 +1,16 @@
 -- A run whose state is the start state where the score is accepted: a refused score's state is not looked at.
+--     ok_accepted, err_refused     a verdict that is `Ok` has the number 0, and no other
+--     played                       the run is that from the start state
 use mathlib.Core.Path.{◌≡◌, refl, sym, ap, ◌∙◌}
-use mathlib.Core.Bool.{Bool, true, false}
 use mathlib.Core.List.{List}
 use Prim.Native.Nat.{ℕ}
-use borrow.Author.Tests.{eqb-true, eqb-false}
-use lib.Dec.{eqb}
+use Rattle.std.proofs.Common.{true, false, Err}
+use Rattle.std.specs.Result.{is_ok}
+use Rattle.laws.proofs.Booleans.{true_is_false}
 use Rattle.format.specs.Decode.{decode}
+use Rattle.check_verdicts.specs.Verdict.{Verdict, Accepted}
 use Rattle.check_verdicts.specs.Verdicts.{verdict_number}
+use Rattle.check_verdicts.proofs.Verdicts.{accepted_only}
 use Rattle.check_score.specs.Check.{verdict}
 use Rattle.lent.specs.States.{start_bytes}
 use Rattle.lent.specs.Lengths.{no_scratch}
@@ -17,6 +21,13 @@ use Rattle.score_answer.specs.Replies.{of_run_reply}
 use Rattle.score.specs.ScoreRun.{ScoreRun}
 use Rattle.runner_run.specs.Played.{from_start, Played}
 
+pub ok_accepted : (v : Verdict) → is_ok v ≡ true → verdict_number v ≡ 0
+ok_accepted Accepted e = refl
+ok_accepted (Err f) e = absurd (true_is_false e refl)
+
+pub err_refused : (v : Verdict) → is_ok v ≡ false → verdict_number v ≡ 0 → ⊥
+err_refused v e zero = true_is_false (ap is_ok (accepted_only v zero)) e
+
 module _ (score inputs state journal : List ℕ) (starts : verdict_number (verdict score) ≡ 0 → state ≡ start_bytes (decode score)) where
   abbrev before : Lent
   before = lent state journal no_scratch
@@ -26,15 +37,15 @@ module _ (score inputs state journal : List ℕ) (starts : verdict_number (verdi
     replies : (exit score inputs before).reply ≡ (exit score inputs (from_start score journal)).reply
 
   alike : Alike
-  alike = go (eqb (verdict_number (verdict score)) 0) refl
+  alike = go (verdict score) refl
     where
-      go : (b : Bool) → eqb (verdict_number (verdict score)) 0 ≡ b → Alike
-      go true e =
-          let s = starts (eqb-true _ 0 e) in
+      go : (v : Verdict) → verdict score ≡ v → Alike
+      go Accepted e =
+          let s = starts (ap verdict_number e) in
           record { journals = ap (λ x. (exit score inputs (lent x journal no_scratch)).lent.journal) s; replies = ap (λ x. (exit score inputs (lent x journal no_scratch)).reply) s }
-      go false e =
-          let left = turned score inputs before {v = verdict score} refl refl (eqb-false _ 0 e) in
-          let right = turned score inputs (from_start score journal) {v = verdict score} refl refl (eqb-false _ 0 e) in
+      go (Err f) e =
+          let left = turned score inputs before (sym e) in
+          let right = turned score inputs (from_start score journal) (sym e) in
           record {
             journals = sym (ap (λ (x : Exit). x.lent.journal) left) ∙ ap (λ (x : Exit). x.lent.journal) right;
             replies = sym (ap (λ (x : Exit). x.reply) left) ∙ ap (λ (x : Exit). x.reply) right;

@@ -25,22 +25,22 @@ fn start(score: &[u8]) -> [u8; lent::STATE_BYTES]
     ensures value { verdict_number (verdict score.now) ≡ 0 → result ≡ start_bytes (decode score.now) }
 {
     let mut state = [0u8; lent::STATE_BYTES];
-    if check_verdicts::number_of(check_score::check(score)) == 0 {
+    let accepted = check_score::check(score).is_ok();
+    if accepted {
         journal_step::write_start(score, &mut state);
     }
     state
 }
 
 // The table's number in an answer.
+#[tactic(auto, unfolding(score_answer::specs::Answer::number_in))]
 fn number_in(answer: u64) -> u64
     ensures { result ≡ number_in answer }
 {
     let layout = answer / 0x2000_0000_0000_0000;
-    if (layout == 0) | (layout == 5) {
-        0
-    } else if layout == 1 {
-        answer % 256
-    } else {
-        layout + 11
+    match layout {
+        0 | 5 => 0,
+        1 => answer % 256,
+        _ => layout + 11,
     }
 }

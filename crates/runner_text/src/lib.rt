@@ -4,26 +4,25 @@
 ghost use Rattle.std.specs.Prelude.{◌≡◌, ◌<◌, length};
 ghost use Rattle.words.specs.Word.{words};
 ghost use Rattle.runner_text.specs.Shown.{shown};
-ghost use Rattle.runner_text.specs.Text.{digit_at as Text·digitAt, line as Text·line};
+ghost use Rattle.runner_text.specs.Text.{digit_at, line};
 
 // How many words stand before the first zero: no word of a journal is zero.
+#[tactic(auto, using(crate::proofs::Shown::shown_here, crate::proofs::Shown::shown_more, crate::proofs::Shown::shown_end))]
 pub fn shown_words(journal: &[u8]) -> usize
     ensures { result ≡ length (shown (words journal.now)) }
 {
     let count = words::word_count(journal);
-    let mut k = 0;
-    while k < count {
+    for k in 0..count {
         if words::word_at(journal, k) == 0 {
             return k;
         }
-        k += 1;
     }
     count
 }
 
-// The line of a word: eight capital hex digits and a line feed.
+// The line of a word: eight capital hex digits and a line feed. No loop: the bytes stand as the definition has them.
 pub fn line(w: u32) -> [u8; 9]
-    ensures { result ≡ Text·line w }
+    ensures { result ≡ line w }
 {
     [
         digit_at(w, 28),
@@ -38,10 +37,12 @@ pub fn line(w: u32) -> [u8; 9]
     ]
 }
 
+// The hex digit of four bits of a word.
+#[tactic(auto, using(words::proofs::Field::field_below))]
 fn digit_at(w: u32, lowest: u32) -> u8
     requires { lowest < 32 }
-    ensures { result ≡ Text·digitAt w lowest }
+    ensures { result ≡ digit_at w lowest }
 {
-    let d = words::bits(w, lowest, 4);
-    if d < 10 { 48 + d as u8 } else { 55 + d as u8 }
+    let d = words::bits(w, lowest, 4) as u8;
+    if d < 10 { b'0' + d } else { b'A' + d - 10 }
 }

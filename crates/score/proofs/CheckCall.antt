@@ -2,14 +2,19 @@
 --     one_exit         the contract settles the number returned
 --     one_answer       two calls that return the same number found the same
 --     read             a caller reads the verdict's number and value
-use mathlib.Core.Path.{◌≡◌, sym, ap, ◌∙◌}
+--     turned_fits      a fault that turns down a score has room in an answer
+use mathlib.Core.Path.{◌≡◌, sym, ap, subst, ◌∙◌}
 use mathlib.Core.List.{List}
 use Prim.Native.Nat.{ℕ}
+use Rattle.std.proofs.Common.{Err}
+use Rattle.check_verdicts.specs.declared.Fault.{Fault}
+use Rattle.check_verdicts.specs.Verdict.{Verdict}
 use Rattle.check_verdicts.specs.Verdicts.{verdict_number, verdict_value}
 use Rattle.check_verdicts.proofs.Verdicts.{number_few, verdict_settled}
 use Rattle.check_score.specs.Check.{verdict}
 use Rattle.check_score.proofs.Values.{verdict_small}
-use Rattle.score_answer.specs.Answer.{reply, number_in, value_in}
+use Rattle.score_answer.specs.Answer.{reply, Fits, number_in, value_in}
+use Rattle.score_answer.specs.Replies.{of_verdict}
 use Rattle.score_answer.proofs.Answer.{exact}
 use Rattle.score_answer.proofs.Replies.{reply_number, reply_value, reply_fits}
 use Rattle.score.specs.CheckCall.{CheckCall, OneExit, OneAnswer}
@@ -27,3 +32,8 @@ read s a c =
 pub one_answer : OneAnswer
 one_answer s t a p q =
     verdict_settled (verdict s) (verdict t) (sym (read s a p).0 ∙ (read t a q).0) (sym (read s a p).1 ∙ (read t a q).1)
+
+pub turned_fits : (s : List ℕ) (f : Fault) → verdict s ≡ Err f → Fits (of_verdict (Err f))
+turned_fits s f e =
+    let v = verdict s in
+    subst (λ (w : Verdict). Fits (of_verdict w)) e (reply_fits (verdict_number v) (verdict_value v) (number_few v) (verdict_small s))

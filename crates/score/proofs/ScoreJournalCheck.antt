@@ -1,16 +1,15 @@
 -- The answers of score_journal_check.
 --     one_exit         the contract settles the scratch and the number returned
 --     fits             every reply of a check of a slice has room in an answer
---     called_fits, returned
---                      so has what a journal check call replies, and returning it, packed, meets the contract
+--     called_fits      so has what a journal check call replies
 --     read             a caller reads the reply's number and value
-use mathlib.Core.Path.{◌≡◌, sym, ap, subst⁻¹, ◌∙◌}
+use mathlib.Core.Path.{sym, ap, subst⁻¹, ◌∙◌}
 use mathlib.Core.List.{List}
 use Prim.Native.Nat.{ℕ}
-use Rattle.journal_step.specs.declared.Reply.{Reply as Replied}
+use Rattle.journal_step.specs.Reply.{Reply as Replied}
 use Rattle.journal_check.specs.JournalCheckCall.{Exit, exit, JournalCheckCall}
 use Rattle.journal_check.proofs.Replies.{check_proper}
-use Rattle.score_answer.specs.Answer.{Fits, packed, Reads}
+use Rattle.score_answer.specs.Answer.{Fits, Reads}
 use Rattle.score_answer.specs.Replies.{of_run_reply}
 use Rattle.score_answer.proofs.Answer.{exact}
 use Rattle.score.specs.ScoreJournalCheck.{ScoreJournalCheck, OneExit}
@@ -27,9 +26,6 @@ fits score journal scratch s = proper_fits (words_few journal s) (check_proper s
 module _ {score journal before after : List ℕ} {r : Replied} (s : Slice journal) (called : JournalCheckCall score journal before after r) where
   pub called_fits : Fits (of_run_reply r)
   called_fits = subst⁻¹ (λ (x : Replied). Fits (of_run_reply x)) (ap (λ (e : Exit). e.reply) called.exits) (fits score journal before s)
-
-  pub returned : {a : ℕ} → a ≡ packed (of_run_reply r) → ScoreJournalCheck score journal before after a
-  returned e = record { lent = s; written = ap (λ (x : Exit). x.scratch) called.exits; answered = e ∙ ap (λ (x : Exit). packed (of_run_reply x.reply)) called.exits }
 
 pub read : (score journal before after : List ℕ) (a : ℕ) → ScoreJournalCheck score journal before after a → Reads a (of_run_reply (exit score journal before).reply)
 read score journal before after a c = rw c.answered (exact (of_run_reply (exit score journal before).reply) (fits score journal before c.lent))

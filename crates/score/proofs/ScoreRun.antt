@@ -3,34 +3,29 @@
 --     proper_fits      a reply of a run or a journal check has room in an answer, where the list or journal is a slice
 --     words_few        a slice has fewer than 2^61 whole words
 --     fits             every reply of a run over a slice has room in an answer
---     called_fits, returned
---                      so has what a run call replies, and returning it, packed, meets the contract
+--     called_fits      so has what a run call replies
 --     read             a caller reads the reply's number and value
-use mathlib.Core.Path.{◌≡◌, sym, ap, subst⁻¹, ◌∙◌}
+use mathlib.Core.Path.{sym, ap, subst⁻¹, ◌∙◌}
 use mathlib.Core.List.{List}
 use Prim.Native.Nat.{ℕ, ◌/◌, ◌^◌, ◌<◌}
 use native.Mathlib.Omega.{arith}
 use lib.ListN.{length}
-use Rattle.check_verdicts.specs.Verdicts.{verdict_number, verdict_value}
-use Rattle.check_verdicts.proofs.Verdicts.{number_few}
-use Rattle.check_score.specs.Check.{verdict}
-use Rattle.check_score.proofs.Values.{verdict_small}
-use Rattle.journal_step.specs.declared.Reply.{Reply as Replied}
+use Rattle.journal_step.specs.Reply.{Reply as Replied}
 use Rattle.journal_step.proofs.Replies.{Proper, turned, lengths, no_state, unlawful, bytes, word, differs, full, last, accepted}
 use Rattle.journal_run.specs.RunCall.{Lent, Exit, exit, RunCall}
 use Rattle.journal_run.proofs.Replies.{run_proper}
-use Rattle.score_answer.specs.Answer.{Fits, packed, Reads}
+use Rattle.score_answer.specs.Answer.{Fits, Reads}
 use Rattle.score_answer.specs.Replies.{of_run_reply}
 use Rattle.score_answer.proofs.Answer.{exact}
-use Rattle.score_answer.proofs.Replies.{reply_fits}
 use Rattle.score.specs.ScoreRun.{ScoreRun, OneExit}
 use Rattle.score.specs.Slice.{Slice}
+use Rattle.score.proofs.CheckCall.{turned_fits}
 
 pub one_exit : OneExit
 one_exit score inputs before after₁ after₂ a b p q = (p.written ∙ sym q.written, p.answered ∙ sym q.answered)
 
 pub proper_fits : {score : List ℕ} {n : ℕ} {r : Replied} → n < 2 ^ 61 → Proper score n r → Fits (of_run_reply r)
-proper_fits {score = score} few turned = reply_fits (verdict_number (verdict score)) (verdict_value (verdict score)) (number_few (verdict score)) (verdict_small score)
+proper_fits {score = score} few (turned f e) = turned_fits score f e
 proper_fits few lengths = omega arith
 proper_fits few no_state = omega arith
 proper_fits few unlawful = omega arith
@@ -51,9 +46,6 @@ fits score inputs l s = proper_fits (words_few inputs s) (run_proper score input
 module _ {score inputs : List ℕ} {l m : Lent} {r : Replied} (s : Slice inputs) (called : RunCall score inputs l m r) where
   pub called_fits : Fits (of_run_reply r)
   called_fits = subst⁻¹ (λ (x : Replied). Fits (of_run_reply x)) (ap (λ (e : Exit). e.reply) called.exits) (fits score inputs l s)
-
-  pub returned : {a : ℕ} → a ≡ packed (of_run_reply r) → ScoreRun score inputs l m a
-  returned e = record { lent = s; written = ap (λ (x : Exit). x.lent) called.exits; answered = e ∙ ap (λ (x : Exit). packed (of_run_reply x.reply)) called.exits }
 
 pub read : (score inputs : List ℕ) (l m : Lent) (a : ℕ) → ScoreRun score inputs l m a → Reads a (of_run_reply (exit score inputs l).reply)
 read score inputs l m a c = rw c.answered (exact (of_run_reply (exit score inputs l).reply) (fits score inputs l c.lent))

@@ -1,3 +1,4 @@
 pub mod Widths
 pub mod Answer
 pub mod Replies
+pub mod Refusals

@@ -1,12 +1,11 @@
 -- Replies as answers.
 --     reply_number, reply_value     the reply with a number and a value has that number and that value
 --     reply_fits                    and has room in an answer, if they are of a verdict's size
---     as_told                       a call's reply is answered as its kind is
-use mathlib.Core.Path.{◌≡◌, refl, sym, ap, subst⁻¹, ◌∙◌}
+use mathlib.Core.Path.{◌≡◌, refl, subst⁻¹}
 use mathlib.Core.Bool.{cond}
 use Prim.Native.Nat.{ℕ, zero, suc, ◌^◌, ◌<◌, ◌≤◌}
 use native.Mathlib.Omega.{arith}
-use Rattle.score_answer.specs.Answer.{Reply, reply, number_of, value_of, Fits, packed}
+use Rattle.score_answer.specs.Answer.{reply, number_of, value_of, Fits}
 use Rattle.score_answer.proofs.Widths.{not_wide}
 
 pub reply_number : (n v : ℕ) → number_of (reply n v) ≡ n
@@ -20,6 +19,3 @@ reply_value (suc n) v = refl
 pub reply_fits : (n v : ℕ) → n ≤ 7 → v < 2 ^ 24 → Fits (reply n v)
 reply_fits zero v hn hv = omega arith
 reply_fits (suc n) v hn hv = (omega arith, omega arith, subst⁻¹ (λ b. v < cond b (2 ^ 61) (2 ^ 24)) (not_wide (suc n) (omega arith)) hv)
-
-pub as_told : {R : Type 0} (of : R → Reply) {r kind : R} {x : Reply} {a : ℕ} → a ≡ packed x → r ≡ kind → x ≡ of kind → a ≡ packed (of r)
-as_told of p e q = p ∙ ap packed q ∙ ap (λ k. packed (of k)) (sym e)

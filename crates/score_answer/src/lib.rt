@@ -1,12 +1,13 @@
 // An answer as a number: what each call found, packed, and what a caller reads off it.
-#![tactic(auto)]
+#![tactic(auto, unfolding(crate::specs::Answer::packed))]
 
 ghost use Rattle.std.specs.Prelude.{◌≡◌, false, true, ◌<◌, ◌≤◌, ◌^◌};
 ghost use Rattle.score_answer.specs.Answer.{refused, settled, counted, packed, is_wide, Fits};
-ghost use Rattle.score_answer.specs.Replies.{of_verdict, of_reply, of_run_reply, of_translation, of_settings};
+ghost use Rattle.score_answer.specs.Replies.{of_verdict, of_refusal, of_reply, of_run_reply, of_translation, of_settings};
 
 use check_verdicts::Verdict;
 use instant_call::Reply;
+use refusals::Refusal;
 use settings_tried::Counts;
 
 // A verdict as an answer.
@@ -14,11 +15,10 @@ pub fn of_verdict(verdict: Verdict) -> u64
     requires { Fits (of_verdict verdict) }
     ensures { result ≡ packed (of_verdict verdict) }
 {
-    let number = check_verdicts::number_of(verdict);
-    if number == 0 {
-        return 0;
+    match verdict {
+        Ok(()) => 0,
+        Err(fault) => of_refusal(Refusal::Score(fault)),
     }
-    refusal(number, check_verdicts::value_of(verdict))
 }
 
 // The reply of an instant call as an answer.
@@ -27,13 +27,8 @@ pub fn of_reply(reply: Reply) -> u64
     ensures { result ≡ packed (of_reply reply) }
 {
     match reply {
-        Reply::Score(verdict) => of_verdict(verdict),
-        Reply::Lengths => refusal(8, 0),
-        Reply::State => refusal(9, 0),
-        Reply::Input => refusal(10, 0),
-        Reply::Last => wide(18, 0),
-        Reply::Next => refusal(11, 0),
-        Reply::Settled(status, count) => settling(status, count),
+        Ok(settled) => settling(settled.status, settled.count),
+        Err(why) => of_refusal(why),
     }
 }
 
@@ -43,16 +38,8 @@ pub fn of_run_reply(reply: journal_step::Reply) -> u64
     ensures { result ≡ packed (of_run_reply reply) }
 {
     match reply {
-        journal_step::Reply::Score(verdict) => of_verdict(verdict),
-        journal_step::Reply::Lengths => refusal(8, 0),
-        journal_step::Reply::State => refusal(9, 0),
-        journal_step::Reply::Unlawful => refusal(11, 0),
-        journal_step::Reply::Bytes => refusal(12, 0),
-        journal_step::Reply::Word(word) => wide(13, word),
-        journal_step::Reply::Differs(instant) => wide(14, instant),
-        journal_step::Reply::Full(instants) => wide(15, instants),
-        journal_step::Reply::Last(instants) => wide(18, instants),
-        journal_step::Reply::Accepted(instants) => instants as u64,
+        Ok(instants) => instants as u64,
+        Err(why) => of_refusal(why),
     }
 }
 
@@ -62,10 +49,8 @@ pub fn of_translation(reply: draft_plain::Reply) -> u64
     ensures { result ≡ packed (of_translation reply) }
 {
     match reply {
-        draft_plain::Reply::Draft(verdict) => of_verdict(verdict),
-        draft_plain::Reply::Lengths => refusal(8, 0),
-        draft_plain::Reply::Large => refusal(16, 0),
-        draft_plain::Reply::Translated(bytes) => bytes as u64,
+        Ok(bytes) => bytes as u64,
+        Err(why) => of_refusal(why),
     }
 }
 
@@ -75,11 +60,35 @@ pub fn of_settings(reply: settings_call::Reply) -> u64
     ensures { result ≡ packed (of_settings reply) }
 {
     match reply {
-        settings_call::Reply::Score(verdict) => of_verdict(verdict),
-        settings_call::Reply::Lengths => refusal(8, 0),
-        settings_call::Reply::State => refusal(9, 0),
-        settings_call::Reply::Switches => refusal(17, 0),
-        settings_call::Reply::Counted(counts) => of_counts(counts),
+        Ok(counts) => of_counts(counts),
+        Err(why) => of_refusal(why),
+    }
+}
+
+// A refusal as an answer.
+fn of_refusal(why: Refusal) -> u64
+    requires { Fits (of_refusal why) }
+    ensures { result ≡ packed (of_refusal why) }
+{
+    match why {
+        Refusal::Score(fault) => {
+            let verdict = Err(fault);
+            refusal(
+                check_verdicts::number_of(verdict),
+                check_verdicts::value_of(verdict),
+            )
+        }
+        Refusal::Lengths => refusal(8, 0),
+        Refusal::State => refusal(9, 0),
+        Refusal::Input => refusal(10, 0),
+        Refusal::Next => refusal(11, 0),
+        Refusal::Bytes => refusal(12, 0),
+        Refusal::Word(word) => wide(13, word),
+        Refusal::Differs(instant) => wide(14, instant),
+        Refusal::Full(instants) => wide(15, instants),
+        Refusal::Large => refusal(16, 0),
+        Refusal::Switches => refusal(17, 0),
+        Refusal::Last(instants) => wide(18, instants),
     }
 }
 

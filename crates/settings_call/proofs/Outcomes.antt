@@ -8,23 +8,25 @@ use mathlib.Core.Bool.{false, not}
 use mathlib.Core.List.{List, Memᴰ}
 use Prim.Native.Nat.{ℕ, ◌<◌, ◌≤◌}
 use native.Mathlib.Omega.{arith}
-use borrow.Author.Tests.{eqb-true, eqb-false, not-true, not-false}
 use lib.Dec.{eqb}
+use Rattle.std.proofs.Common.{Ok, Err}
 use lib.ListN.{length}
 use Rattle.laws.proofs.Booleans.{by_test, neither}
 use Rattle.laws.proofs.Sets.{none_above}
 use Rattle.format.specs.Decode.{sizes, decode}
 use Rattle.format.proofs.Decode.{decode_tokens}
+use Rattle.check_verdicts.specs.declared.Fault.{Fault}
 use Rattle.check_verdicts.specs.Verdicts.{verdict_number}
 use Rattle.check_score.specs.Check.{verdict}
+use Rattle.refusals.specs.Refused.{Turned, Lengths, State, Switches}
+use Rattle.refusals.proofs.ByVerdict.{by_fault}
 use Rattle.lent.specs.Lengths.{state_bytes}
 use Rattle.lent.specs.States.{state_fault, state_of}
 use Rattle.lent.proofs.Lengths.{right}
 use Rattle.settings_switches.specs.Switches.{most_switches, repeated, switch_fault}
 use Rattle.settings_switches.proofs.Listed as listed
 use Rattle.settings_tried.specs.Settings.{settings, counts}
-use Rattle.settings_call.specs.declared.Reply.{Reply}
-use Rattle.settings_call.specs.declared.Reply.TheVariants.{Score as Turned, Lengths, State, Switches, Counted}
+use Rattle.settings_call.specs.Reply.{Reply}
 use Rattle.settings_call.specs.SettingsCall.{press_fault, reply}
 
 pub record Accepts (score state switches : List ℕ) (k : ℕ) : Type 0 where
@@ -34,22 +36,21 @@ pub record Accepts (score state switches : List ℕ) (k : ℕ) : Type 0 where
   pub faultless : press_fault (sizes score).tokens switches k ≡ false
 
 pub data Outcome (score state switches : List ℕ) (k : ℕ) : Reply → Type 0 where
-  turned : (verdict_number (verdict score) ≡ 0 → ⊥) → Outcome score state switches k (Turned (verdict score))
+  turned : (f : Fault) → verdict score ≡ Err f → Outcome score state switches k (Turned f)
   lengths : Outcome score state switches k Lengths
   unlawful : Outcome score state switches k State
   switched : Outcome score state switches k Switches
-  counted : Accepts score state switches k → Outcome score state switches k (Counted (counts (decode score) (state_of state) (settings k switches)))
+  counted : Accepts score state switches k → Outcome score state switches k (Ok (counts (decode score) (state_of state) (settings k switches)))
 
 pub outcome : (score state switches : List ℕ) (k : ℕ) → Outcome score state switches k (reply score state switches k)
 unfolding reply
 outcome score state switches k =
     let O : Reply → Type 0 = Outcome score state switches k in
-    let number = verdict_number (verdict score) in
-    by_test O (not (eqb number 0)) (λ e. turned (eqb-false number 0 (not-true (eqb number 0) e)))
-    (λ passed. by_test O (not (eqb (length state) state_bytes)) (λ e. lengths)
+    by_fault O (verdict score) turned
+    (λ accepted. by_test O (not (eqb (length state) state_bytes)) (λ e. lengths)
     (λ even. by_test O (state_fault (sizes score).agents state) (λ e. unlawful)
     (λ lawful. by_test O (press_fault (sizes score).tokens switches k) (λ e. switched)
-    (λ faultless. counted (record { accepted = eqb-true number 0 (not-false (eqb number 0) passed); long = right (length state) state_bytes even; lawful = lawful; faultless = faultless })))))
+    (λ faultless. counted (record { accepted = accepted; long = right (length state) state_bytes even; lawful = lawful; faultless = faultless })))))
 
 module _ {score state switches : List ℕ} {k : ℕ} (a : Accepts score state switches k) where
   none : switch_fault (sizes score).tokens switches ≡ false

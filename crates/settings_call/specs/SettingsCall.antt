@@ -3,15 +3,15 @@
 --     press_fault      number 17: a fault in the switches, or "k above their number"
 --     reply            the whole call
 --     SettingsCall     its contract
-use Rattle.std.specs.Prelude.{◌≡◌, Bool, cond, not, ◌||◌, List, ℕ, suc, eqb, leb, length}
+use Rattle.std.specs.Prelude.{◌≡◌, Bool, cond, not, ◌||◌, List, ℕ, suc, eqb, leb, length, Ok}
 use Rattle.format.specs.Decode.{sizes, decode}
-use Rattle.check_verdicts.specs.Verdicts.{verdict_number}
+use Rattle.check_verdicts.specs.Verdicts.{by_verdict}
 use Rattle.check_score.specs.Check.{verdict}
 use Rattle.lent.specs.Lengths.{state_bytes}
 use Rattle.lent.specs.States.{state_fault, state_of}
 use Rattle.settings_switches.specs.Switches.{switch_fault}
-use Rattle.settings_call.specs.declared.Reply.{Reply}
-use Rattle.settings_call.specs.declared.Reply.TheVariants.{Score as Turned, Lengths, State, Switches, Counted}
+use Rattle.refusals.specs.Refused.{Turned, Lengths, State, Switches}
+use Rattle.settings_call.specs.Reply.{Reply}
 use Rattle.settings_tried.specs.Settings.{settings, counts}
 
 abbrev pub press_fault : ℕ → List ℕ → ℕ → Bool
@@ -19,11 +19,11 @@ press_fault tokens switches k = switch_fault tokens switches || leb (suc (length
 
 unfoldable pub reply : List ℕ → List ℕ → List ℕ → ℕ → Reply
 reply score state switches k =
-    cond (not (eqb (verdict_number (verdict score)) 0)) (Turned (verdict score))
+    by_verdict (verdict score) Turned
     (cond (not (eqb (length state) state_bytes)) Lengths
     (cond (state_fault (sizes score).agents state) State
     (cond (press_fault (sizes score).tokens switches k) Switches
-    (Counted (counts (decode score) (state_of state) (settings k switches))))))
+    (Ok (counts (decode score) (state_of state) (settings k switches))))))
 
 -- the call's contract: over the score, the state, the switches, how many are pressed, and the reply
 pub record SettingsCall (score state switches : List ℕ) (k : ℕ) (replied : Reply) : Type 0 where

@@ -1,19 +1,21 @@
 -- A list of switches, gone through from its front.
---     listed_more, listed_all     whether a token is listed: one place further on, and at the end
+--     contained                   `contains`, at what is listed from a place on
 --     flawed                      a switch is listed again or is no token of the score
 --     flawed_more, flawed_all     the same of that
 --     fault_many, fault_few       so the list meets number 17, by its length or by what it lists
 --     faultless                   what is known of a list that does not
-use mathlib.Core.Path.{◌≡◌, refl, ap, ◌∙◌}
+use mathlib.Core.Path.{◌≡◌, refl, ap, ap₂, ◌∙◌}
 use mathlib.Core.Bool.{Bool, true, false, ◌||◌, or-false}
-use mathlib.Core.List.{List, ◌∷◌}
-use Prim.Native.Nat.{ℕ, suc, ◌+◌, ◌<◌, ◌≤◌}
+use mathlib.Core.List.{List, [], ◌∷◌}
+use Prim.Native.Nat.{ℕ, suc, ◌+◌, ◌-◌, ◌<◌, ◌≤◌}
 use native.Mathlib.Numerals.{add-one}
 use native.Mathlib.Omega.{arith}
 use borrow.Author.Tests.{le-leb, lt-leb, leb-false}
 use lib.Dec.{eqb, leb}
-use lib.ListN.{length, get_or, drop, drop_of_length-le}
-use lib.Seq.{drop-cons}
+use lib.ListN.{length, length-drop, get_or, take, drop, drop_of_length-le}
+use lib.Seq.{drop-cons, take_all}
+use Rattle.std.proofs.lemmas.Bool.Decides.{nat_tests}
+use Rattle.std.specs.List.{list_any}
 use Rattle.laws.specs.Sets.{any, has}
 use Rattle.laws.proofs.Booleans.{neither}
 use Rattle.settings_switches.specs.Switches.{most_switches, repeated, switch_fault}
@@ -23,12 +25,12 @@ or_shift : (a b c : Bool) → (a || (b || c)) ≡ ((a || b) || c)
 or_shift true b c = refl
 or_shift false b c = refl
 
-module _ (l : List ℕ) (token : ℕ) (found : Bool) (i : ℕ) (so : has token l ≡ (found || has token (drop i l))) where
-  pub listed_more : i < length l → has token l ≡ ((found || eqb token (get_or l i 0)) || has token (drop (i + 1) l))
-  listed_more lt = so ∙ ap (λ r. found || has token r) (drop-cons l i 0 lt) ∙ or_shift found (eqb token (get_or l i 0)) (has token (drop (suc i) l)) ∙ rw (add-one i)
+listed : (t : ℕ) (l : List ℕ) → list_any (λ u. eqb u t) l ≡ has t l
+listed t [] = refl
+listed t (u ∷ l) = ap₂ (λ a b. a || b) (grind (arith, nat_tests)) (listed t l)
 
-  pub listed_all : length l ≤ i → found ≡ has token l
-  listed_all le = rw (so, drop_of_length-le l le, or-false found)
+pub contained : (t : ℕ) (l : List ℕ) (i : ℕ) → list_any (λ u. eqb u t) (take (length l - i) (drop i l)) ≡ has t (drop i l)
+contained t l i = rw (take_all (length l - i) (drop i l) (omega (arith, length-drop i l))) (listed t (drop i l))
 
 abbrev pub flawed : ℕ → List ℕ → Bool
 flawed tokens l = repeated l || any (λ t. leb tokens t) l
@@ -45,15 +47,12 @@ flawed_first tokens t l = go (has t l) (repeated l) (leb tokens t) (any (λ u. l
     go false false false d = refl
 
 module _ (tokens : ℕ) (l : List ℕ) (found : Bool) (i : ℕ) (so : flawed tokens l ≡ (found || flawed tokens (drop i l))) where
-  pub flawed_more : i < length l → flawed tokens l ≡ (((found || leb tokens (get_or l i 0)) || has (get_or l i 0) (drop (i + 1) l)) || flawed tokens (drop (i + 1) l))
+  pub flawed_more : i < length l → flawed tokens l ≡ ((found || (leb tokens (get_or l i 0) || has (get_or l i 0) (drop (i + 1) l))) || flawed tokens (drop (i + 1) l))
   flawed_more lt =
       let t = get_or l i 0 in
       let rest = drop (suc i) l in
       so ∙ ap (λ r. found || flawed tokens r) (drop-cons l i 0 lt) ∙ ap (λ b. found || b) (flawed_first tokens t rest)
-      ∙ go (leb tokens t) (has t rest) (flawed tokens rest) ∙ rw (add-one i)
-    where
-      go : (a b c : Bool) → (found || ((a || b) || c)) ≡ (((found || a) || b) || c)
-      go a b c = or_shift found (a || b) c ∙ ap (λ x. x || c) (or_shift found a b)
+      ∙ or_shift found (leb tokens t || has t rest) (flawed tokens rest) ∙ rw (add-one i)
 
   pub flawed_all : length l ≤ i → found ≡ flawed tokens l
   flawed_all le = rw (so, drop_of_length-le l le, or-false found)

@@ -2,7 +2,6 @@
 #![tactic(auto)]
 
 ghost use Rattle.std.specs.Prelude.{◌≡◌};
-ghost use Rattle.laws.specs.Sets.{has};
 ghost use Rattle.settings_switches.specs.Switches.{switch_fault};
 
 // The most switches that may be listed.
@@ -16,30 +15,8 @@ pub fn switch_fault(switches: &[u8], tokens: usize) -> bool
         return true;
     }
     let mut found = false;
-    let mut i = 0;
-    while i < switches.len() {
-        let token = switches[i];
-        i += 1;
-        found = found | (tokens <= widen(token)) | is_listed(&switches[i..], token);
-    }
-    found
-}
-
-fn widen(x: u8) -> usize
-    ensures { result ≡ x }
-{
-    x as usize
-}
-
-// Whether a token is listed.
-fn is_listed(switches: &[u8], token: u8) -> bool
-    ensures { result ≡ has token switches.now }
-{
-    let mut found = false;
-    let mut i = 0;
-    while i < switches.len() {
-        found = found | (token == switches[i]);
-        i += 1;
+    for (i, token) in switches.iter().enumerate() {
+        found |= tokens <= usize::from(*token) || switches[i + 1..].contains(token);
     }
     found
 }

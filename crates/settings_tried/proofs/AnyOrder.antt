@@ -27,7 +27,8 @@ use Rattle.settings_switches.specs.Switches.{most_switches, switch_fault}
 use Rattle.settings_tried.specs.declared.Counts.{Counts}
 use Rattle.settings_tried.specs.Settings.{settings, counts}
 use Rattle.settings_tried.specs.AnyOrder.{Reordered, AnyOrder}
-use Rattle.settings_tried.proofs.Counting.{plus, three, counts_map, counted, counts_first}
+use Rattle.settings_tried.specs.Sums.{plus}
+use Rattle.settings_tried.proofs.Counting.{three, counts_map, counted, counts_first}
 use Rattle.settings_tried.proofs.Swaps.{Swaps, none, under, swap, then, swaps_sym, front, swaps_long, swaps_any, swaps_same, swaps_repeated, swaps_copies}
 
 plus_swap : (a b c : Counts) → plus a (plus b c) ≡ plus b (plus a c)

@@ -1,5 +1,4 @@
 -- Laws of the three numbers.
---     plus             two threes of numbers, added
 --     three            two threes are equal number by number
 --     ending_cons, ending_append     how many end with a status: of one setting more, of two lists, one after the other
 --     ending_map       of settings with the same tokens, one by one
@@ -24,9 +23,7 @@ use Rattle.tcc.specs.Instant.{State, answer}
 use Rattle.tcc.proofs.Status.{status_same}
 use Rattle.settings_tried.specs.declared.Counts.{Counts}
 use Rattle.settings_tried.specs.Settings.{settings, ending, counts}
-
-abbrev pub plus : Counts → Counts → Counts
-plus a b = record { quiet = a.quiet + b.quiet; clashed = a.clashed + b.clashed; aborted = a.aborted + b.aborted }
+use Rattle.settings_tried.specs.Sums.{plus}
 
 pub three : {a b c a' b' c' : ℕ} → a ≡ a' → b ≡ b' → c ≡ c' → ◌≡◌ {A = Counts} (record { quiet = a; clashed = b; aborted = c }) (record { quiet = a'; clashed = b'; aborted = c' })
 three p q r = rw (p, q, r)

@@ -1,6 +1,5 @@
 -- Settings with some switches chosen already, tried by the first switch left.
 --     press_same      a switch flagged among those chosen, or put to the setting
---     others, first_others, others_fewer     the switches after the first, and how many
 --     released        a switch as it was
 --     tried_one       none is to be pressed
 --     tried_none      more are to be pressed than are left
@@ -14,15 +13,16 @@ use mathlib.Core.Logic.{⊎_elim}
 use Prim.Native.Nat.{ℕ, zero, suc, ◌-◌, ◌<◌, ◌≤◌}
 use native.Mathlib.Omega.{arith}
 use native.Mathlib.Numerals.{sub-one}
-use lib.ListN.{length, get_or, set, take, drop, length-map, length-drop}
-use lib.Seq.{drop-cons, take_all, set-set, set-get_or}
+use lib.ListN.{length, get_or, set, length-map}
+use lib.Seq.{set-set, set-get_or}
 use Rattle.laws.specs.Sets.{Same}
 use Rattle.tcc.specs.Score.{Score}
 use Rattle.tcc.specs.Instant.{State}
 use Rattle.flags.specs.Flags.{set_of}
 use Rattle.flags.proofs.Flags.{set_kept, set_here, set_cases}
 use Rattle.settings_tried.specs.Settings.{settings, counts}
-use Rattle.settings_tried.proofs.Counting.{plus, counts_none, counts_map, counts_few, counted, counts_first, settings_over}
+use Rattle.settings_tried.specs.Sums.{plus}
+use Rattle.settings_tried.proofs.Counting.{counts_none, counts_map, counts_few, counted, counts_first, settings_over}
 use Rattle.settings_tried.proofs.Binomial.{settings_long, choose_most}
 
 abbrev pub with : List Bool → List ℕ → List ℕ
@@ -49,16 +49,6 @@ press_same chosen t s lt x = (to, from)
         (Memᴰ.cases_cons i))
         (Memᴰ.append_cases (set_of chosen) m)
 
--- the switches after the first
-abbrev pub others : List ℕ → List ℕ
-others left = take (length left - 1) (drop 1 left)
-
-first_others : (left : List ℕ) → 1 ≤ length left → left ≡ get_or left 0 0 ∷ others left
-first_others left h = drop-cons left 0 0 h ∙ ap (λ l. get_or left 0 0 ∷ l) (sym (take_all (length left - 1) (drop 1 left) (omega (arith, length-drop 1 left))))
-
-pub others_fewer : (left : List ℕ) → 1 ≤ length left → length (others left) < length left
-others_fewer left h = omega (arith, ap length (first_others left h))
-
 pub released : (chosen last : List Bool) (t : ℕ) → last ≡ set chosen t true → set last t (get_or chosen t false) ≡ chosen
 released chosen last t e = ap (λ l. set l t (get_or chosen t false)) e ∙ set-set chosen t true (get_or chosen t false) ∙ set-get_or chosen t false
 
@@ -69,16 +59,14 @@ module _ (sc : Score) (st : State) (chosen : List Bool) where
   pub tried_none : (k : ℕ) (left : List ℕ) → length left < k → record { quiet = 0; clashed = 0; aborted = 0 } ≡ counted sc st (with chosen) k left
   tried_none k left h = sym (ap (λ l. counts sc st (map (with chosen) l)) (settings_over k left h) ∙ counts_none sc st)
 
-  pub tried_both : (k t : ℕ) (left : List ℕ) → (k ≡ 0 → ⊥) → 1 ≤ length left → t ≡ get_or left 0 0 → t < length chosen →
-      plus (counted sc st (with (set chosen t true)) (k - 1) (others left)) (counted sc st (with chosen) k (others left)) ≡ counted sc st (with chosen) k left
-  tried_both zero t left some h first lt = absurd (some refl)
-  tried_both (suc k) t left some h first lt =
-      let next = others left in
-      ap (λ n. plus (counted sc st (with (set chosen t true)) n next) (counted sc st (with chosen) (suc k) next)) (sub-one (suc k))
-      ∙ ap (λ c. plus c (counted sc st (with chosen) (suc k) next)) (counts_map sc st (with (set chosen t true)) (λ s. with chosen (t ∷ s)) (settings k next) (λ s. press_same chosen t s lt))
-      ∙ sym (counts_first sc st (with chosen) k t next)
-      ∙ ap (λ x. counted sc st (with chosen) (suc k) (x ∷ next)) first
-      ∙ ap (counted sc st (with chosen) (suc k)) (sym (first_others left h))
+  pub tried_both : (k t : ℕ) (left rest : List ℕ) → (k ≡ 0 → ⊥) → left ≡ t ∷ rest → t < length chosen →
+      plus (counted sc st (with (set chosen t true)) (k - 1) rest) (counted sc st (with chosen) k rest) ≡ counted sc st (with chosen) k left
+  tried_both zero t left rest some first lt = absurd (some refl)
+  tried_both (suc k) t left rest some first lt =
+      ap (λ n. plus (counted sc st (with (set chosen t true)) n rest) (counted sc st (with chosen) (suc k) rest)) (sub-one (suc k))
+      ∙ ap (λ c. plus c (counted sc st (with chosen) (suc k) rest)) (counts_map sc st (with (set chosen t true)) (λ s. with chosen (t ∷ s)) (settings k rest) (λ s. press_same chosen t s lt))
+      ∙ sym (counts_first sc st (with chosen) k t rest)
+      ∙ ap (counted sc st (with chosen) (suc k)) (sym first)
 
   pub tried_few : (k : ℕ) (left : List ℕ) → length left ≤ 16 →
       let c = counted sc st (with chosen) k left in (c.quiet ≤ 12870) × (c.clashed ≤ 12870) × (c.aborted ≤ 12870)

@@ -3,3 +3,4 @@ pub mod Settings
 pub mod AllSettings
 pub mod Binomial
 pub mod AnyOrder
+pub mod Sums

@@ -4,27 +4,43 @@
 ghost use Rattle.std.specs.Prelude.{◌≡◌, [], ◌∷◌, ◌++◌, map, ◌≤◌, length};
 ghost use Rattle.tcc.specs.Instant.{answer};
 ghost use Rattle.format.specs.Decode.{decode};
-ghost use Rattle.instant_prepared.specs.Prepared.{PreparedFrom};
 ghost use Rattle.flags.specs.Flags.{set_of};
 ghost use Rattle.settings_switches.specs.Switches.{most_switches};
 ghost use Rattle.settings_tried.specs.Settings.{settings, counts};
+ghost use Rattle.settings_tried.specs.Sums.{plus, AllFit};
 ghost use Rattle.settings_tried.specs.Standing.{state_from};
 
 use flags::{Agents, Tokens};
 use instant_prepared::Prepared;
+use std::ops::Add;
 
 // How many settings end with each status: 0, 1 and 2.
-#[derive(Clone, Copy)]
+#[derive(Clone, Copy, Default)]
 pub struct Counts {
     pub quiet: usize,
     pub clashed: usize,
     pub aborted: usize,
 }
 
+impl Add for Counts {
+    type Output = Counts;
+
+    ghost can_add = { λ a b. AllFit (plus a b) };
+
+    ghost add_gives = { λ a b sum. sum ≡ plus a b };
+
+    fn add(self, rhs: Counts) -> Counts {
+        Counts {
+            quiet: self.quiet + rhs.quiet,
+            clashed: self.clashed + rhs.clashed,
+            aborted: self.aborted + rhs.aborted,
+        }
+    }
+}
+
 // Tries the settings in which the switches that are chosen already and exactly k of those left are pressed: those with the
 // first one left, then those without it.
 pub fn try_settings(
-    score: &[u8],
     prepared: &Prepared,
     running: bool,
     awake: &Agents,
@@ -32,78 +48,46 @@ pub fn try_settings(
     left: &[u8],
     k: usize,
 ) -> Counts
-    requires prepared_from { PreparedFrom score.now prepared.now }
-    requires awake_len { length awake.now ≡ 1024 }
-    requires chosen_len { length chosen.old ≡ 256 }
-    requires left_len_bound { length left.now ≤ most_switches }
-    ensures value { result ≡ counts (decode score.now) (state_from running awake.now) (map (λ s. set_of chosen.old ++ s) (settings k left.now)) }
+    requires { length left.now ≤ most_switches }
+    ensures value { result ≡ counts (decode prepared.now.bytes.now) (state_from running awake.now) (map (λ s. set_of chosen.old ++ s) (settings k left.now)) }
     ensures chosen_unchanged { chosen.new ≡ chosen.old }
 {
     if k == 0 {
-        return try_setting(score, prepared, running, awake, chosen);
+        return try_setting(prepared, running, awake, chosen);
     }
-    if left.len() < k {
-        return Counts {
-            quiet: 0,
-            clashed: 0,
-            aborted: 0,
-        };
-    }
-    let token = widen(left[0]);
-    let others = &left[1..];
-    let was = chosen[token];
-    chosen[token] = true;
-    let with = try_settings(score, prepared, running, awake, chosen, others, k - 1);
-    chosen[token] = was;
-    let without = try_settings(score, prepared, running, awake, chosen, others, k);
-    Counts {
-        quiet: with.quiet + without.quiet,
-        clashed: with.clashed + without.clashed,
-        aborted: with.aborted + without.aborted,
+    match left.split_first() {
+        Some((first, others)) if k <= left.len() => {
+            let token = usize::from(*first);
+            let was = chosen[token];
+            chosen[token] = true;
+            let with = try_settings(prepared, running, awake, chosen, others, k - 1);
+            chosen[token] = was;
+            let without = try_settings(prepared, running, awake, chosen, others, k);
+            with + without
+        }
+        _ => Counts::default(),
     }
 }
 
 // Tries one setting.
-fn try_setting(
-    score: &[u8],
-    prepared: &Prepared,
-    running: bool,
-    awake: &Agents,
-    pressed: &Tokens,
-) -> Counts
-    requires prepared_from { PreparedFrom score.now prepared.now }
-    requires awake_len { length awake.now ≡ 1024 }
-    ensures { result ≡ counts (decode score.now) (state_from running awake.now) (set_of pressed.now ∷ []) }
+fn try_setting(prepared: &Prepared, running: bool, awake: &Agents, pressed: &Tokens) -> Counts
+    ensures { result ≡ counts (decode prepared.now.bytes.now) (state_from running awake.now) (set_of pressed.now ∷ []) }
 {
-    let status = status_in(score, prepared, running, awake, pressed);
+    let status = status_in(prepared, running, awake, pressed);
     Counts {
-        quiet: (status == 0) as usize,
-        clashed: (status == 1) as usize,
-        aborted: (status == 2) as usize,
+        quiet: usize::from(status == 0),
+        clashed: usize::from(status == 1),
+        aborted: usize::from(status == 2),
     }
 }
 
 // The status with which a setting ends: an aborted score stays aborted.
-fn status_in(
-    score: &[u8],
-    prepared: &Prepared,
-    running: bool,
-    awake: &Agents,
-    pressed: &Tokens,
-) -> usize
-    requires prepared_from { PreparedFrom score.now prepared.now }
-    requires awake_len { length awake.now ≡ 1024 }
-    ensures { result ≡ (answer (decode score.now) (state_from running awake.now) (set_of pressed.now)).status }
+fn status_in(prepared: &Prepared, running: bool, awake: &Agents, pressed: &Tokens) -> usize
+    ensures { result ≡ (answer (decode prepared.now.bytes.now) (state_from running awake.now) (set_of pressed.now)).status }
 {
     if running {
-        let trial = instant_engine::try_instant(score, prepared, awake, pressed);
-        return trial.status;
+        instant_engine::try_instant(prepared, awake, pressed).status
+    } else {
+        2
     }
-    2
-}
-
-fn widen(x: u8) -> usize
-    ensures { result ≡ x }
-{
-    x as usize
 }

@@ -2,16 +2,10 @@
 #![tactic(auto)]
 
 ghost use Rattle.std.specs.Prelude.{◌≡◌, ◌+◌, ◌*◌, ◌/◌, ◌<◌, length};
-ghost use Rattle.words.specs.Word.{joined, words, word_at, field};
-
-// The word of four bytes, lowest first.
-fn join(a: u8, b: u8, c: u8, d: u8) -> u32
-    ensures { result ≡ joined a b c d }
-{
-    a as u32 | (b as u32) << 8 | (c as u32) << 16 | (d as u32) << 24
-}
+ghost use Rattle.words.specs.Word.{words, word_at, field};
 
 // How many whole words a slice of bytes has.
+#[tactic(auto, using(crate::proofs::Words::words_length))]
 pub fn word_count(s: &[u8]) -> usize
     ensures { result ≡ length (words s.now) }
 {
@@ -19,12 +13,13 @@ pub fn word_count(s: &[u8]) -> usize
 }
 
 // Word i of a slice of bytes.
+#[tactic(auto, using(crate::proofs::Words::words_length, crate::proofs::Words::word_joined))]
 pub fn word_at(s: &[u8], i: usize) -> u32
     requires { i < length (words s.now) }
     ensures { result ≡ word_at s.now i }
 {
     let at = i * 4;
-    join(s[at], s[at + 1], s[at + 2], s[at + 3])
+    u32::from_le_bytes([s[at], s[at + 1], s[at + 2], s[at + 3]])
 }
 
 // The bits of a word from a lowest one on.

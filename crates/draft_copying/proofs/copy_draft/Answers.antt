@@ -27,4 +27,4 @@ copy_procedure-requires-clause-rising c = none
 pub returns : goal.returns
 returns c =
     let key = start_key (goal.at.returns c).After-row_of in
-    copied_places c.requires.table_len (subst (λ k. CopiedTo (decode_draft c.args.draft.now) k 0 c.args.table.now c.copy_procedure.result c.copy_procedure.new.table) key c.copy_procedure.ensures)
+    copied_places c.copy_procedure.result c.requires.table_len (subst (λ k. CopiedTo (decode_draft c.args.draft.now) k 0 c.args.table.now c.copy_procedure.result c.copy_procedure.new.table) key c.copy_procedure.ensures)

@@ -11,10 +11,10 @@ pub returns-then-running : goal.returns-then-running
 unfolding answer trial_of
 returns-then-running c =
     let a = c.args in
-    ap (λ t. t.status) c.try_instant-trial.ensures ∙ sym (ap (λ r. (answer (decode a.score.now) (state_from r a.awake.now) (set_of a.pressed.now)).status) c.if-running.true)
+    ap (λ t. t.status) c.try_instant.ensures ∙ sym (ap (λ r. (answer (decode a.prepared.now.bytes.now) (state_from r a.awake.now) (set_of a.pressed.now)).status) c.if-running.true)
 
-pub returns : goal.returns
+pub returns-else-running : goal.returns-else-running
 unfolding answer
-returns c =
+returns-else-running c =
     let a = c.args in
-    sym (ap (λ r. (answer (decode a.score.now) (state_from r a.awake.now) (set_of a.pressed.now)).status) c.if-running.false)
+    sym (ap (λ r. (answer (decode a.prepared.now.bytes.now) (state_from r a.awake.now) (set_of a.pressed.now)).status) c.if-running.false)

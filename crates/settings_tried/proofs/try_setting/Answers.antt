@@ -27,4 +27,5 @@ one_ends sc st s n e = three
 pub returns : goal.returns
 returns c =
     let a = c.args in
-    one_ends (decode a.score.now) (state_from a.running a.awake.now) (set_of a.pressed.now) c.status_in-status.result c.status_in-status.ensures
+    three c.from.ensures c.from-2.ensures c.from-3.ensures
+    ∙ one_ends (decode a.prepared.now.bytes.now) (state_from a.running a.awake.now) (set_of a.pressed.now) c.status_in-status.result c.status_in-status.ensures

@@ -4,8 +4,8 @@ use Rattle.draft_copying.proofs.Translatable.{token_few, body_below}
 use Rattle.draft_copying.proofs.Leading.{going_on, going_ends}
 use Rattle.draft_copying.proofs.targets.target.Goals as goal
 
-pub returns-in-Plain : goal.returns-in-Plain
-returns-in-Plain c = going_ends c.requires.translatable c.loop-token.invariant (sym c.draft_agent_at.ensures ∙ c.in-Plain.is) c.renumbered.ensures
+pub returns : goal.returns
+returns c = going_ends c.requires.translatable c.loop-token.invariant (sym c.draft_agent_at.ensures ∙ c.in_default.is) c.renumbered.ensures
 
 pub with_token-added-requires : goal.with_token-added-requires
 with_token-added-requires c = omega (arith, token_few c.requires.translatable c.loop-token.i (sym c.draft_agent_at.ensures ∙ c.in-Watch.is))
