@@ -1,20 +1,20 @@
 -- Laws of the tokens of a set, and of the rules from them.
 --     pair_first, pair_added     a pair of number 0 is its set, also where a token was added to that of another pair
 --     holds_high, held_in_lem    the set of a pair has no token from 256 on, and none that the pair as a number does not hold
---     first_found, as_found, lowest_found     the first token found in a set is its first member, and 0 where it has none
+--     members_from               the members of a set from a token on, below a bound
+--     members_first, members_later     from 0 on they are all, where none is above the bound; where a token is not in the set, they are those from the next one on
 --     rules_more                 a set more has as many rules more as it has members
 use mathlib.Core.Path.{◌≡◌, refl, ap, subst, ◌∙◌}
-use mathlib.Core.Bool.{Bool, true, false, cond}
+use mathlib.Core.Bool.{true, false}
 use mathlib.Core.List.{List, [], ◌∷◌, ◌++◌, map, Memᴰ}
 use mathlib.Core.Logic.{by_cases}
-use Prim.Native.Nat.{ℕ, suc, ◌+◌, ◌%◌, ◌<◌, ◌≤◌}
+use Prim.Native.Nat.{ℕ, suc, ◌+◌, ◌-◌, ◌%◌, ◌<◌, ◌≤◌}
 use native.Mathlib.Decide.{dec_lt}
 use native.Mathlib.Nat.{zero-add, lt_of_lt_of_le, div-eq_of_lt}
 use native.Mathlib.Omega.{arith}
 use lib.Dec.{eqb}
-use Rattle.std.specs.Prelude.{Option, Some, None, unwrap_or, option_map}
-use Rattle.std.specs.List.{find, filter, range_with_len}
-use lib.ListN.{length, get_or, length-append, length-map}
+use Rattle.std.specs.List.{filter, range_with_len}
+use lib.ListN.{length, length-append, length-map}
 use lib.Pow.{pow_mono}
 use Rattle.laws.proofs.Booleans.{true_is_false}
 use Rattle.draft_language.proofs.Carries.{member_rule}
@@ -40,23 +40,15 @@ held_in_lem k t h =
     by_cases (dec_lt t 256) (λ lt. (member_holds k (subst (Memᴰ t) (members_set k) (holds_member (set_in k) lt h))).1)
     (λ ge. absurd (true_is_false h (holds_high k t (omega arith))))
 
--- ---- the first member
-first_found : (f : ℕ → Bool) (l : List ℕ) → unwrap_or (find f l) 0 ≡ get_or (filter f l) 0 0
-first_found f [] = refl
-first_found f (t ∷ l) = go (f t) (first_found f l)
-  where
-    go : (b : Bool) → unwrap_or (find f l) 0 ≡ get_or (filter f l) 0 0 → unwrap_or (cond b (Some t) (find f l)) 0 ≡ get_or (cond b (t ∷ filter f l) (filter f l)) 0 0
-    go true rest = refl
-    go false rest = rest
+-- ---- the members from a token on
+abbrev pub members_from : (set tokens t : ℕ) → List ℕ
+members_from set tokens t = filter (holds set) (range_with_len t (tokens - t))
 
-as_found : (o : Option ℕ) → unwrap_or o 0 ≡ unwrap_or (option_map (λ t. t) o) 0
-as_found None = refl
-as_found (Some t) = refl
+pub members_first : (set tokens : ℕ) → tokens ≤ 256 → ((t : ℕ) → holds set t ≡ true → t < tokens) → members_from set tokens 0 ≡ members set
+members_first set tokens h bound = let all : tokens - 0 ≡ tokens = omega arith in rw all (members_below set tokens h bound)
 
-pub lowest_found : (set tokens : ℕ) (o : Option ℕ) → tokens ≤ 256 → ((t : ℕ) → holds set t ≡ true → t < tokens) →
-    option_map (λ t. t) o ≡ find (holds set) (range_with_len 0 tokens) → unwrap_or o 0 ≡ get_or (members set) 0 0
-lowest_found set tokens o h bound found =
-    as_found o ∙ ap (λ r. unwrap_or r 0) found ∙ first_found (holds set) (range_with_len 0 tokens) ∙ ap (λ l. get_or l 0 0) (members_below set tokens h bound)
+pub members_later : (set tokens t : ℕ) → t < tokens → holds set t ≡ false → members_from set tokens t ≡ members_from set tokens (t + 1)
+members_later set tokens t h clear = let one : tokens - t ≡ suc (tokens - (t + 1)) = omega arith in rw (one, clear) refl
 
 -- ---- the rules of sets
 

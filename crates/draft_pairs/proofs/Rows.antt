@@ -4,9 +4,9 @@
 --     row_number, row_renumbered               the first digit is the pair's number; another first digit
 --     row_holds                                a token is in the set where its digit has its bit
 --     row_room, row_with                       a token that is not in: its bit added to its digit
---     members_below                            the tokens of a set below a bound are all, where none is above it
+--     members_kept, members_below              the tokens of a set below a bound are all, where none is above it; as a range filtered
 --     members_set                              a pair's set has the members that the pair has as a number
---     row_before                               rows compare as arrays do
+--     agree_apart                              rows that agree below a digit compare as that digit where it differs
 use mathlib.Core.Path.{◌≡◌, refl, sym, ap, ap₂, ◌∙◌}
 use mathlib.Core.Bool.{Bool, true, false, cond}
 use mathlib.Core.List.{List, [], ◌∷◌, ◌++◌, append-nil}
@@ -16,7 +16,7 @@ use native.Mathlib.Decide.{dec_lt}
 use native.Mathlib.Nat.{le_of_lt, add_assoc, add-mul, add-zero, add-suc, mul_assoc, one-mul, zero-add}
 use native.Mathlib.Omega.{arith}
 use borrow.Author.Rules.{elem_Fits}
-use borrow.Author.Tests.{lt-ltb, le-ltb, eq-eqb, ne_eqb}
+use borrow.Author.Tests.{lt-ltb, le-ltb}
 use denote.Array.{Array}
 use denote.Laws.{Is}
 use denote.Plain.{UInt}
@@ -27,9 +27,6 @@ use lib.Pow.{pow-add, shl_exact, shr-shr, high, low, field, mod-mod-pow}
 use lib.Seq.{get_or-drop, set_split, set-get_or}
 use mir.Syntax.{w64}
 use mir.Val.{Val}
-use Rattle.std.specs.Ordering.{nat_cmp, is_lt, is_some_and}
-use Rattle.std.specs.declared.option.Option.TheVariants.{Some}
-use Rattle.std.specs.Cmp.Lexicographic.{slice_partial_cmp}
 use Rattle.std.specs.List.{filter, range_with_len}
 use Rattle.laws.specs.Sets.{below, keep}
 use Rattle.laws.proofs.Booleans.{cond_false}
@@ -210,41 +207,33 @@ module _ (f : ℕ → Bool) where
       none true g = absurd (let l = h (m + n) g in omega arith)
       none false g = refl
 
-pub members_below : (set tokens : ℕ) → tokens ≤ 256 → ((t : ℕ) → holds set t ≡ true → t < tokens) → filter (holds set) (range_with_len 0 tokens) ≡ members set
+pub members_kept : (set tokens : ℕ) → tokens ≤ 256 → ((t : ℕ) → holds set t ≡ true → t < tokens) → keep (holds set) (below tokens) ≡ members set
 unfolding members
-members_below set tokens h bound =
+members_kept set tokens h bound =
     let e : tokens + (256 - tokens) ≡ 256 = omega arith in
-    filtered (holds set) (range_with_len 0 tokens) ∙ ap (keep (holds set)) (range_below tokens)
-    ∙ sym (kept_beyond (holds set) tokens (256 - tokens) bound) ∙ ap (λ n. keep (holds set) (below n)) e
+    sym (kept_beyond (holds set) tokens (256 - tokens) bound) ∙ ap (λ n. keep (holds set) (below n)) e
+
+pub members_below : (set tokens : ℕ) → tokens ≤ 256 → ((t : ℕ) → holds set t ≡ true → t < tokens) → filter (holds set) (range_with_len 0 tokens) ≡ members set
+members_below set tokens h bound = filtered (holds set) (range_with_len 0 tokens) ∙ ap (keep (holds set)) (range_below tokens) ∙ members_kept set tokens h bound
 
 pub members_set : (k : ℕ) → members (set_in k) ≡ members k
 unfolding members set_in
 members_set k = keep_agrees (λ t. holds (k % 2 ^ 256) t) (λ t. holds k t) (below 256) (λ t m. holds_low 256 k t (below_lt 256 t m))
 
 -- ---- rows compared
--- a higher part decides, whatever is below it
-lower : (u v : ℕ) (a b : List ℕ) → u < v → length a ≡ length b → ((i : ℕ) → get_or a i 0 < 2 ^ 64) → value_from u a < value_from v b
-lower u v a b h long small =
-    let P = 2 ^ (64 * length a) in
-    let g : u * P + value_from 0 a < v * P + value_from 0 b = omega (arith, digits_lt {q = u} {m = v} {r = value_from 0 a} {c = P} h (value_below a small)) in
-    rw (value_high u a, value_high v b, ← long) g
+-- rows that agree below digit k, the first the lower there
+apart : {a b : List ℕ} → Digits a → Digits b → (k : ℕ) → k < 5 → take k a ≡ take k b → get_or a k 0 < get_or b k 0 → row_value a < row_value b
+apart {a} {b} p q k h same less =
+    let P = 2 ^ (64 * (4 - k)) in
+    let above = value_from 0 (take k b) * 2 ^ 64 in
+    let z = value_from 0 (drop (suc k) a) in
+    let g : (above + get_or a k 0) * P + z < (above + get_or b k 0) * P = digits_lt {q = above + get_or a k 0} {m = above + get_or b k 0} {r = z} {c = P} (omega arith) (rest_below a p.long k h p.small) in
+    rw (row_digit a p.long k h, row_digit b q.long k h, ap (value_from 0) same) (omega (arith, g))
 
--- the first digits that differ decide
-compared : (v : ℕ) (a b : List ℕ) → length a ≡ length b → ((i : ℕ) → get_or a i 0 < 2 ^ 64) → ((i : ℕ) → get_or b i 0 < 2 ^ 64) →
-    is_some_and is_lt (slice_partial_cmp (λ x y. Some (nat_cmp x y)) a b) ≡ ltb (value_from v a) (value_from v b)
-unfolding value_from
-compared v [] [] long p q = sym (le-ltb v v (omega arith))
-compared v [] (y ∷ b) long p q = absurd (omega arith)
-compared v (x ∷ a) [] long p q = absurd (omega arith)
-compared v (x ∷ a) (y ∷ b) long p q =
-    let same : length a ≡ length b = omega arith in
-    let u = v * 2 ^ 64 + x in
-    let w = v * 2 ^ 64 + y in
+pub agree_apart : {a b : List ℕ} → Digits a → Digits b → (k : ℕ) → k < 5 → take k a ≡ take k b → (get_or a k 0 ≡ get_or b k 0 → ⊥) → ltb (get_or a k 0) (get_or b k 0) ≡ ltb (row_value a) (row_value b)
+agree_apart {a} {b} p q k h same differ =
+    let x = get_or a k 0 in
+    let y = get_or b k 0 in
     by_cases (dec_lt x y)
-    (λ l. rw (lt-ltb x y l) (sym (lt-ltb (value_from u a) (value_from w b) (lower u w a b (omega arith) same (λ i. p (suc i))))))
-    (λ g. by_cases (dec_lt y x)
-    (λ l. rw (le-ltb x y (omega arith), ne_eqb x y (omega arith)) (sym (le-ltb (value_from u a) (value_from w b) (le_of_lt (lower w u b a (omega arith) (sym same) (λ i. q (suc i)))))))
-    (λ n. let e : x ≡ y = omega arith in rw (e, le-ltb y y (omega arith), eq-eqb y y refl) (compared w a b same (λ i. p (suc i)) (λ i. q (suc i)))))
-
-pub row_before : {a b : List ℕ} → Digits a → Digits b → is_some_and is_lt (slice_partial_cmp (λ x y. Some (nat_cmp x y)) a b) ≡ ltb (row_value a) (row_value b)
-row_before {a} {b} p q = compared 0 a b (p.long ∙ sym q.long) p.small q.small
+    (λ l. lt-ltb x y l ∙ sym (lt-ltb (row_value a) (row_value b) (apart p q k h same l)))
+    (λ g. le-ltb x y (omega arith) ∙ sym (le-ltb (row_value a) (row_value b) (le_of_lt (apart q p k h (sym same) (omega arith)))))

@@ -54,7 +54,13 @@ pub fn with_token(mut row: Row, token: usize) -> Row
 pub fn is_before(a: Row, b: Row) -> bool
     ensures { result ≡ ltb (row_value a) (row_value b) }
 {
-    a < b
+    // Not by `<`, for speed: the order of arrays goes by an `Option<Ordering>` at each number.
+    for k in 0..5 {
+        if a[k] != b[k] {
+            return a[k] < b[k];
+        }
+    }
+    false
 }
 
 // How many tokens a pair's set has, all of them below `tokens`.
@@ -64,5 +70,10 @@ pub fn token_count(row: Row, tokens: usize) -> usize
     ensures value { result ≡ length (members (set_in (row_value row))) }
     ensures upper_bound { result ≤ tokens }
 {
-    (0..tokens).filter(|t| has_token(row, *t)).count()
+    // A sum, for speed: the closure of `filter` copies the pair at each token.
+    let mut n = 0;
+    for t in 0..tokens {
+        n += usize::from(has_token(row, t));
+    }
+    n
 }

@@ -1,17 +1,14 @@
--- `lowest`: the first token found is the first member.
-use Rattle.std.proofs.Common.{◌∙◌, rules, arith, tests}
-use Rattle.std.proofs.lemmas.Iterator.{YieldsList-from_range}
-use Rattle.std.proofs.lemmas.Iterator.Search.{find_from_yields_List}
-use Rattle.draft_pairs.specs.TokenSets.{holds}
+-- `lowest`: the members from 0 on are all; where a token is not in the set, those from it on are those from the next one on.
+use Rattle.std.proofs.Common.{sym, ◌∙◌}
 use Rattle.draft_pairs.specs.Pairs.{set_in}
 use Rattle.draft_pairs.specs.Rows.{row_value}
-use Rattle.draft_gathering.proofs.Members.{lowest_found}
+use Rattle.draft_gathering.proofs.Members.{members_first, members_later}
 use Rattle.draft_gathering.proofs.asked.lowest.Goals as goal
 
-pub returns : goal.returns
-returns c =
-    let set = set_in (row_value c.args.set) in
-    let tokens = c.args.tokens in
-    c.unwrap_or.ensures
-    ∙ lowest_found set tokens c.find.result c.requires.tokens_le_most_tokens c.requires.by_index
-    (find_from_yields_List (holds set) _ _ c.find.result c.find.ensures.ran (YieldsList-from_range 0 tokens tokens (cc) (omega arith)) (λ x b q k. search (rules, tests)))
+pub loop-t-init : goal.loop-t-init
+loop-t-init c = members_first (set_in (row_value c.args.set)) c.args.tokens c.requires.tokens_le_most_tokens c.requires.by_index
+
+pub loop-t-preserved : goal.loop-t-preserved
+loop-t-preserved c =
+    let clear = sym c.has_token.ensures ∙ c.if-has_token.false in
+    sym (members_later (set_in (row_value c.args.set)) c.args.tokens c.loop-t.t c.loop-t-test.true clear) ∙ c.loop-t.invariant

@@ -1,7 +1,8 @@
--- `is_before`: rows compare as arrays do.
-use Rattle.std.proofs.Common.{◌∙◌}
-use Rattle.draft_pairs.proofs.Rows.{digits, row_before}
+-- `is_before`: the first digits that differ decide.
+use Rattle.std.proofs.Common.{arith}
+use Rattle.draft_pairs.proofs.Rows.{digits, agree_apart}
 use Rattle.draft_pairs.proofs.row.is_before.Goals as goal
 
-pub returns : goal.returns
-returns c = c.lt.ensures ∙ row_before (digits c.well_formed.0) (digits c.well_formed.1.0)
+pub returns-then-a-k : goal.returns-then-a-k
+returns-then-a-k c =
+    agree_apart (digits c.well_formed.0) (digits c.well_formed.1.0) c.loop-k.k (omega arith) c.loop-k.invariant c.if-a-k.true
